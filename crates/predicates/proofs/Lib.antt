@@ -1,0 +1,3 @@
+pub mod Joint
+pub mod Intervals
+pub mod Days

@@ -1,0 +1,10 @@
+pub mod Intervals
+pub mod IntervalMeaning
+pub mod BoxLimits
+pub mod Boxes
+pub mod StateSets
+pub mod WindowLimits
+pub mod Windows
+pub mod WindowMeaning
+pub mod Boths
+pub mod Examples
