@@ -1,5 +1,6 @@
 // One trip of a van. Days count from 1 January 2000, seconds from midnight; the cell is a position.
 ghost use mathlib.Core.Path.{_≡_};
+ghost use Prim.Native.Nat.{_≤_};
 ghost use Rattle.std.specs.Results.{Cases};
 ghost use Rattle.rows.specs.Limits.{TripLimits};
 use crate::BadRow;
@@ -16,6 +17,7 @@ pub struct Trip {
     cell: u32,
     metres: u32,
     ghost limits: { TripLimits van day second metres },
+    ghost cells: { cell ≤ 4294967295 },
 }
 
 impl Trip {

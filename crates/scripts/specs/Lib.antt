@@ -1,0 +1,10 @@
+pub mod Causes
+pub mod Scans
+pub mod Numbers
+pub mod Cursors
+pub mod Trips
+pub mod Boxes
+pub mod Lines
+pub mod Sections
+pub mod Writing
+pub mod Wholes
