@@ -1,4 +1,5 @@
 pub mod Causes
+pub mod Faults
 pub mod Scans
 pub mod Numbers
 pub mod Cursors

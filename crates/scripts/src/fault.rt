@@ -1,6 +1,9 @@
 // Why and where a text is not a script.
 ghost use mathlib.Core.Path.{_≡_};
+ghost use Rattle.std.specs.declared.option.Option.the-variants.{Some};
 ghost use Rattle.scripts.specs.Causes.{cause-number};
+ghost use Rattle.scripts.specs.Faults.{fault-text};
+use std::fmt;
 
 #[derive(Clone, Copy, PartialEq, Eq, Debug)]
 pub enum Cause {
@@ -35,4 +38,15 @@ impl Cause {
 pub struct Fault {
     pub line: u32,
     pub cause: Cause,
+}
+
+// `fault`, the line and the cause's number, as a program prints it.
+pub impl fmt::Display for Fault as FaultDisplay {
+    ghost shown = { λ f. Some (fault-text f) };
+
+    fn fmt<W: fmt::Write>(&self, f: &mut fmt::Formatter<W>) -> fmt::Result {
+        let line = self.line;
+        let cause = self.cause.number();
+        write!(f, "fault {line} {cause}")
+    }
 }
