@@ -19,13 +19,13 @@ use std::fmt;
 
 // A box's number, counted from 1, how many trips hold in it, and their metres.
 #[derive(Clone, Copy)]
-pub struct BoxFigures {
+pub(crate) struct BoxFigures {
     number: usize,
     trips: usize,
     metres: u64,
 }
 
-pub impl fmt::Display for BoxFigures as BoxFiguresDisplay {
+pub(crate) impl fmt::Display for BoxFigures as BoxFiguresDisplay {
     ghost shown = { λ f. Some (figures-text f) };
 
     fn fmt<W: fmt::Write>(&self, f: &mut fmt::Formatter<W>) -> fmt::Result {
@@ -60,7 +60,7 @@ fn of_boxes(heap: Global, trips: &[Trip], boxes: &[TripBox]) -> Result<Vec<BoxFi
 }
 
 // The figures of every box, each trip counted once.
-pub fn figures(heap: Global, sections: &Sections) -> Result<Vec<BoxFigures>, AllocError>
+pub(crate) fn figures(heap: Global, sections: &Sections) -> Result<Vec<BoxFigures>, AllocError>
     ensures { λ r. ⌜ made r (λ v. vec-items v ≡ mileage (vec-items (now (sections .entry) .trips)) (vec-items (now (sections .entry) .boxes))) ⌝ }
 {
     let trips = each_once(heap, sections.trips.as_slice())?;

@@ -20,7 +20,7 @@ fn is_among<R: Row>(rows: &[R], row: &R) -> bool
 }
 
 // The rows, each once, in the order in which they first come.
-pub fn each_once<R: Row>(heap: Global, rows: &[R]) -> Result<Vec<R>, AllocError>
+pub(crate) fn each_once<R: Row>(heap: Global, rows: &[R]) -> Result<Vec<R>, AllocError>
     ensures list { λ r. ⌜ made r (λ v. vec-items v ≡ gathered order [] (now (rows .entry))) ⌝ }
     ensures once { λ r. ⌜ made r (λ v. Each-once (now (rows .entry)) (vec-items v)) ⌝ }
 {

@@ -6,7 +6,7 @@ ghost use Rattle.std.specs.shelf.Lists.{countBy, kept-by, sumBy};
 use predicates::predicate::Predicate;
 use rows::row::Row;
 
-pub fn tally<P: Predicate>(rows: &[P::Row], predicate: &P) -> (usize, u64)
+pub(crate) fn tally<P: Predicate>(rows: &[P::Row], predicate: &P) -> (usize, u64)
     requires { ⌜ length (now rows) ≤ 512 ⌝ }
     ensures count { λ r. ⌜ r .0 ≡ countBy (holds (now (predicate .entry))) (now (rows .entry)) ⌝ }
     ensures sum { λ r. ⌜ r .1 ≡ sumBy (Row·Row .amount) (kept-by (holds (now (predicate .entry))) (now (rows .entry))) ⌝ }

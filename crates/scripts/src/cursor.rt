@@ -9,7 +9,7 @@ ghost use Rattle.scripts.specs.Cursors.{rest, ended};
 use crate::fault::Cause;
 
 #[derive(Drop)]
-pub struct Cursor<'a> {
+pub(crate) struct Cursor<'a> {
     text: &'a [u8],
     at: usize,
 }
@@ -22,7 +22,7 @@ fn appended(value: u32, digit: u32) -> Option<u32>
 }
 
 impl<'a> Cursor<'a> {
-    pub fn new(text: &'a [u8]) -> Cursor<'a>
+    pub(crate) fn new(text: &'a [u8]) -> Cursor<'a>
         ensures { λ r. ⌜ rest r ≡ now (text .entry) ⌝ }
     {
         Cursor { text, at: 0 }
@@ -44,7 +44,7 @@ impl<'a> Cursor<'a> {
         Some(u32::from(byte - b'0'))
     }
 
-    pub fn number(&mut self) -> Result<u32, Cause>
+    pub(crate) fn number(&mut self) -> Result<u32, Cause>
         ensures text { λ _. ⌜ now (self .exit) .text ≡ now (self .entry) .text ⌝ }
         ensures read { λ r. ⌜ Reads (number (rest (now (self .entry)))) r (rest (now (self .exit))) ⌝ }
     {
@@ -62,7 +62,7 @@ impl<'a> Cursor<'a> {
     }
 
     // The byte that has to come next is passed.
-    pub fn pass(&mut self, byte: u8) -> Result<(), Cause>
+    pub(crate) fn pass(&mut self, byte: u8) -> Result<(), Cause>
         ensures text { λ _. ⌜ now (self .exit) .text ≡ now (self .entry) .text ⌝ }
         ensures read { λ r. ⌜ Reads (pass byte (rest (now (self .entry)))) r (rest (now (self .exit))) ⌝ }
     {
@@ -74,7 +74,7 @@ impl<'a> Cursor<'a> {
     }
 
     // The next number of a line, with the space before it unless it is the first.
-    pub fn word(&mut self, first: bool) -> Result<u32, Cause>
+    pub(crate) fn word(&mut self, first: bool) -> Result<u32, Cause>
         ensures text { λ _. ⌜ now (self .exit) .text ≡ now (self .entry) .text ⌝ }
         ensures read { λ r. ⌜ Reads (word first (rest (now (self .entry)))) r (rest (now (self .exit))) ⌝ }
     {
@@ -84,7 +84,7 @@ impl<'a> Cursor<'a> {
         self.number()
     }
 
-    pub fn is_at_end(&self) -> bool
+    pub(crate) fn is_at_end(&self) -> bool
         ensures { λ r. ⌜ r ≡ ended (rest (now (self .entry))) ⌝ }
     {
         self.at >= self.text.len()

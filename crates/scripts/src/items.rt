@@ -24,7 +24,7 @@ fn finish<const N: usize, T: Item<N>>(cursor: &mut Cursor, words: &[u32; N]) -> 
 }
 
 // The items of `count` lines, of which the first is line `first` of the text.
-pub fn items<const N: usize, T: Item<N>>(
+pub(crate) fn items<const N: usize, T: Item<N>>(
     heap: Global,
     cursor: &mut Cursor,
     first: u32,

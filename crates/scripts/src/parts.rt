@@ -53,7 +53,7 @@ fn section<const N: usize, T: Item<N>>(
 }
 
 // The trips and the boxes, at the front of a script.
-pub fn trips_and_boxes(heap: Global, cursor: &mut Cursor) -> Result<Sections, ReadError>
+pub(crate) fn trips_and_boxes(heap: Global, cursor: &mut Cursor) -> Result<Sections, ReadError>
     ensures text { λ _. ⌜ now (cursor .exit) .text ≡ now (cursor .entry) .text ⌝ }
     ensures read { λ r. ⌜ Gives section-numbers (trips-and-boxes (rest (now (cursor .entry)))) r (rest (now (cursor .exit))) ⌝ }
 {
