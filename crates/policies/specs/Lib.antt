@@ -1,0 +1,4 @@
+pub mod Ranks
+pub mod Ages
+pub mod Classes
+pub mod Nevers
