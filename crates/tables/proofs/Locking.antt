@@ -3,6 +3,7 @@ use mathlib.Core.Path.{_≡_, refl, sym, ap, _∙_}
 use mathlib.Core.Bool.{Bool, true, false, true≢false, cond, _||_}
 use mathlib.Core.List.{List, [], _∷_, _++_, append-assoc}
 use Prim.Native.Nat.{ℕ, _+_, _<_}
+use native.Mathlib.Omega.{arith}
 use lib.ListN.{length, take, drop, getD}
 use Rattle.std.proofs.shelf.Lists.{take-more, at-drop-more}
 use Rattle.tables.specs.declared.entries.LockEntry.{LockEntry}
@@ -45,3 +46,12 @@ no-release {P} j n (l ∷ ls) e = go (is-lock j n l) e (no-release j n ls)
     go : (b : Bool) → (b || some-of (is-lock j n) ls) ≡ false → (some-of (is-lock j n) ls ≡ false → release-one j n ls ≡ ls) → cond b ls (l ∷ release-one j n ls) ≡ l ∷ ls
     go true q ih = absurd (true≢false q)
     go false q ih = ap (λ (x : List (LockEntry P)). l ∷ x) (ih q)
+
+-- a lock that is given up leaves one fewer
+pub release-length : {P : Type 0} (j n : ℕ) (ls : List (LockEntry P)) → some-of (is-lock j n) ls ≡ true → length (release-one j n ls) + 1 ≡ length ls
+release-length j n [] e = absurd (true≢false (sym e))
+release-length {P} j n (l ∷ ls) e = go (is-lock j n l) e (release-length j n ls)
+  where
+    go : (b : Bool) → (b || some-of (is-lock j n) ls) ≡ true → (some-of (is-lock j n) ls ≡ true → length (release-one j n ls) + 1 ≡ length ls) → length (cond b ls (l ∷ release-one j n ls)) + 1 ≡ length (l ∷ ls)
+    go true q ih = omega arith
+    go false q ih = let k = ih q in omega arith

@@ -1,0 +1,3 @@
+// The keeper: the scheduler that admits jobs (transactions) to the rows of a store under predicate locks.
+pub mod keeper;
+pub mod lock_answer;
