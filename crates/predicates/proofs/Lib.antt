@@ -1,3 +1,4 @@
 pub mod Joint
 pub mod Intervals
 pub mod Days
+pub mod Worked

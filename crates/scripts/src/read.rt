@@ -11,11 +11,14 @@ use crate::read_error::ReadError;
 use crate::sections::Sections;
 use std::alloc::Global;
 
+// The most bytes that a script may have.
+const MOST_BYTES: usize = 65_536;
+
 pub fn read_sections(heap: Global, text: &[u8]) -> Result<Sections, ReadError>
     ensures left_to_right { λ r. ⌜ Gives section-numbers (reading (now (text .entry))) r [] ⌝ }
     ensures exact { λ r. ⌜ Accepts (now (text .entry)) r ⌝ }
 {
-    if text.len() > 65_536 {
+    if text.len() > MOST_BYTES {
         return Err(ReadError::Fault(Fault {
             line: 1,
             cause: Cause::TooLong,

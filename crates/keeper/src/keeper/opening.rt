@@ -30,4 +30,18 @@ impl Keeper {
     {
         self.jobs.open(class)
     }
+
+    // The length of the lock table for which it was made.
+    pub fn table_len(&self) -> usize
+        ensures { λ r. ⌜ r ≡ now (self .entry) .table ⌝ }
+    {
+        self.table
+    }
+
+    // The length of the undo log for which it was made.
+    pub fn log_len(&self) -> usize
+        ensures { λ r. ⌜ r ≡ now (self .entry) .log ⌝ }
+    {
+        self.log
+    }
 }
