@@ -1,4 +1,4 @@
--- Where the table's searches find a place, and the table with one place changed.
+-- Where a job's place and the first free one are, and the table with one place changed.
 use mathlib.Core.Path.{_≡_}
 use mathlib.Core.Bool.{true, false}
 use mathlib.Core.List.{List}
