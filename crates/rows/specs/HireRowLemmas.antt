@@ -1,38 +1,22 @@
+-- Hires are strictly ordered.
 use Rattle.std.specs.Prelude.{◌≡◌, ℕ, refl}
-use Rattle.std.proofs.Common.{sym, ap, ◌∙◌}
+use Rattle.std.specs.declared.cmp.Ordering.TheVariants.{Equal}
+use Rattle.std.proofs.Common.{ap, subst}
+use Rattle.std.specs.Cmp.{IsTotalOrder}
 use denote.Struct.Record.{values_one}
 use Rattle.std.specs.Ordering.{ordering_then, nat_cmp}
 use Rattle.rows.specs.declared.hire.Hire.{Hire}
 use Rattle.rows.specs.contracts.hire.Hire.{struct, the_type}
 use Rattle.rows.specs.declared.hire.state.HireState.{HireState}
 use Rattle.rows.specs.declared.hire.state.HireState.TheVariants.{Booked, Out, Back}
-use Rattle.rows.specs.contracts.hire.state.HireState.{as_values, the_make, the_eta}
+use Rattle.rows.specs.contracts.hire.state.HireStateOrd.TheImpl as state_derived
+use Rattle.rows.specs.contracts.hire.state.HireStateOrd.TheImpl.Laws as state_laws
 use Rattle.rows.specs.HireStates.{state_order}
 use Rattle.rows.specs.Hires.{hire_order}
-use Rattle.rows.specs.contracts.hire.state.HireStateOrd.TheImpl as state_derived
-use Rattle.rows.specs.contracts.hire.HireOrd.TheImpl as hire_derived
-use Rattle.rows.specs.OrdersLemmas.{Telling, number, none, and_then, or_else, by}
+use Rattle.rows.specs.OrdersLemmas.{Telling, number, and_then, by}
 
-pub state_one : (x y : HireState) → as_values x ≡ as_values y → x ≡ y
-state_one x y e = sym (the_eta x) ∙ ap the_make e ∙ the_eta y
-
-abbrev pub one_field : ℕ × Unit {0} → ℕ
-one_field v = v.0
-
-abbrev pub two_fields : ℕ × (ℕ × Unit {0}) → ℕ × ℕ
-two_fields v = (v.0, v.1.0)
-
-abbrev pub three_fields : ℕ × (ℕ × (ℕ × Unit {0})) → ℕ × (ℕ × ℕ)
-three_fields v = (v.0, (v.1.0, v.1.1.0))
-
-abbrev pub states : Telling (λ x' y' r'. r' ≡ (state_derived.ghosts).cmp x' y')
-states =
-    by as_values state_one
-    (or_else (by two_fields (λ x y e. λ i. ((e i).0, ((e i).1, tt))) (and_then number number))
-    (or_else (by one_field (λ x y e. λ i. (e i, tt)) number)
-    (or_else (by three_fields (λ x y e. λ i. ((e i).0, ((e i).1.0, ((e i).1.1, tt)))) (and_then number (and_then number number))) none)))
-
-pub states_order : (x y : HireState) → states.total.cmp x y ≡ state_order x y
+-- what the derive gives
+pub states_order : (x y : HireState) → (state_derived.ghosts).cmp x y ≡ state_order x y
 states_order (Booked f l) (Booked g m) = refl
 states_order (Booked f l) (Out g) = refl
 states_order (Booked f l) (Back g m n) = refl
@@ -43,14 +27,28 @@ states_order (Back f l k) (Booked g m) = refl
 states_order (Back f l k) (Out g) = refl
 states_order (Back f l k) (Back g m n) = refl
 
+pub states_one : (x y : HireState) → state_order x y ≡ Equal → x ≡ y
+states_one (Booked f l) (Booked g m) e = ap (λ p. Booked p.0 p.1) ((and_then number number).exact (f, l) (g, m) e)
+states_one (Booked f l) (Out g) e = cc
+states_one (Booked f l) (Back g m n) e = cc
+states_one (Out f) (Booked g m) e = cc
+states_one (Out f) (Out g) e = ap Out (number.exact f g e)
+states_one (Out f) (Back g m n) e = cc
+states_one (Back f l k) (Booked g m) e = cc
+states_one (Back f l k) (Out g) e = cc
+states_one (Back f l k) (Back g m n) e = ap (λ p. Back p.0 p.1.0 p.1.1) ((and_then number (and_then number number)).exact (f, (l, k)) (g, (m, n)) e)
+
+abbrev pub states : Telling state_order
+states = record { total = subst IsTotalOrder (λ i x y. states_order x y i) state_laws.total-law; exact = states_one }
+
 abbrev pub key : Hire → ℕ × (ℕ × HireState)
 key h = (h.van, (h.client, h.state))
 
 pub key_one : (x y : Hire) → key x ≡ key y → x ≡ y
 key_one x y e = values_one struct the_type.propositions x y (λ i. ((e i).0, ((e i).1.0, ((e i).1.1, tt))))
 
-abbrev pub hires : Telling (λ x' y' r'. r' ≡ (hire_derived.ghosts).cmp x' y')
+abbrev pub hires : Telling hire_order
 hires = by key key_one (and_then number (and_then number states))
 
-pub hires_order : (x y : Hire) → hires.total.cmp x y ≡ hire_order x y
+pub hires_order : (x y : Hire) → ordering_then (nat_cmp x.van y.van) (ordering_then (nat_cmp x.client y.client) ((state_derived.ghosts).cmp x.state y.state)) ≡ hire_order x y
 hires_order x y = ap (λ o. ordering_then (nat_cmp x.van y.van) (ordering_then (nat_cmp x.client y.client) o)) (states_order x.state y.state)

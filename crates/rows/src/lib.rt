@@ -1,4 +1,6 @@
 // Kinds of row: what every kind promises, and the kinds at hand.
+#![tactic(auto)]
+
 pub mod hire;
 pub mod row;
 pub mod trip;
