@@ -1,4 +1,6 @@
 // Waiting policies: which job may wait for which holder of a lock.
+#![tactic(auto)]
+
 pub mod age;
 pub mod class_then_age;
 pub mod never;

@@ -1,4 +1,6 @@
 // Kinds of predicate: what every kind promises, and the kinds at hand.
+#![tactic(auto)]
+
 pub mod both;
 pub mod examples;
 pub mod hire_window;

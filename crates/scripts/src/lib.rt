@@ -1,4 +1,6 @@
 // The script format: reading its sections from bytes.
+#![tactic(auto)]
+
 mod cursor;
 pub mod fault;
 mod item;

@@ -1,4 +1,6 @@
 // The keeper's lists: the table of open jobs, and entries and functions of the lent lock table and undo log.
+#![tactic(auto)]
+
 pub mod coverage;
 pub mod entries;
 pub mod holders;

@@ -7,4 +7,4 @@ pub returns : goal.returns
 returns c =
     let one = c.args.one.now in
     let other = c.args.other.now in
-    subst (λ b. Decides b (NoNumberInBoth one other)) (sym c.is-disjoint.ensures) (separate_exact one other)
+    subst (λ b. Decides b (NoNumberInBoth one other)) (sym c.is_disjoint.ensures) (separate_exact one other)
