@@ -4,7 +4,7 @@ use Rattle.keeper.specs.Fronts.{front}
 use Rattle.keeper.proofs.running.run.Goals as goal
 
 pub loop-entry-init : goal.loop-entry-init
-loop-entry-init g c = (refl, refl, refl, c.if-table-table-len.false ∙ c.table-len.ensures, c.if-log-log-len.false ∙ c.log_len.ensures)
+loop-entry-init g c = (refl, refl, refl, c.if-table-table_len.false ∙ c.table_len.ensures, c.if-log-log_len.false ∙ c.log_len.ensures)
 
 pub step-requires : goal.step-requires
 step-requires g c = record { table = c.loop-entry.invariant.3; log = c.loop-entry.invariant.4 }
@@ -21,7 +21,7 @@ returns g c =
     let table = c.args.table.now in
     let log = c.args.log.now in
     let went = run_whole g.P.Predicate.apart g.W.WaitPolicy.allows c.args.transcript.now c.loop-entry.transcript k c.loop-entry.keeper table c.loop-entry.table log c.loop-entry.log c.loop-entry.entry-index _ _
-    (c.if-table-table-len.false ∙ c.table-len.ensures, c.if-log-log-len.false ∙ c.log_len.ensures) c.loop-entry-test.false c.loop-entry.auto.transcript c.loop-entry.invariant in
+    (c.if-table-table_len.false ∙ c.table_len.ensures, c.if-log-log_len.false ∙ c.log_len.ensures) c.loop-entry-test.false c.loop-entry.auto.transcript c.loop-entry.invariant in
     record {
       ran = went;
       lawful = went_lawful g.P.Predicate.apart g.W.WaitPolicy.allows g.W.WaitPolicy.rank g.met.W.WaitPolicy.ranked k c.loop-entry.keeper table c.loop-entry.table log c.loop-entry.log c.args.transcript.now c.loop-entry.transcript went;

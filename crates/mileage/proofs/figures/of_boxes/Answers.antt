@@ -12,7 +12,7 @@ loop-i-preserved c =
     let i = c.loop-i.i in
     let b = c.index-boxes-i.result in
     let rest = each_box trips (i + 1 + 1) (drop (i + 1) boxes) in
-    let pushed = c.in-ok-push.ensures.items ∙ ap (λ f. list ++ f ∷ []) c.of-box.ensures in
+    let pushed = c.in_ok-push.ensures.items ∙ ap (λ f. list ++ f ∷ []) c.of_box.ensures in
     let next = ap (λ bs. list ++ each_box trips (i + 1) bs) (next_row boxes i b c.loop-i-test.true c.index-boxes-i.is) in
     ap (λ l. l ++ rest) pushed ∙ append_assoc list (box_figures trips (i + 1) b ∷ []) rest ∙ sym next ∙ c.loop-i.invariant
 

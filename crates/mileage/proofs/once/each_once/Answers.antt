@@ -4,7 +4,7 @@ use Rattle.mileage.specs.Once.{EachOnce, among, gathered}
 use Rattle.mileage.proofs.Distinct.{gathered_once}
 use Rattle.mileage.proofs.Seen.{gathered_more}
 use Rattle.mileage.proofs.once.each_once.Goals as goal
-use Rattle.mileage.proofs.once.each_once.Goals.{then-not-is-among+in-ok-push, else-not-is-among}
+use Rattle.mileage.proofs.once.each_once.Goals.{then-not-is_among+in_ok-push, else-not-is_among}
 
 pub loop-row-preserved : goal.loop-row-preserved
 loop-row-preserved g c =
@@ -14,12 +14,12 @@ loop-row-preserved g c =
     let x = c.row-item.result in
     let seen = vec_items c.loop-row.seen in
     let more = gathered_more order rows i x c.loop-row-test.true c.row-item.is seen in
-    let asked = ap (among order x) (sym c.as-slice.ensures.value) ∙ sym c.is-among.ensures in
-    elim c.if-not-is-among.branch [
-      | then-not-is-among+in-ok-push w ↦
-          ap (λ s. gathered order s (drop (i + 1) rows)) (ap vec_items w.seen-is ∙ w.in-ok-push.ensures.items) ∙ sym (more false (asked ∙ w.if-not-is-among.true)) ∙ c.loop-row.invariant
-      | else-not-is-among w ↦
-          ap (λ s. gathered order s (drop (i + 1) rows)) (ap vec_items w.seen-is) ∙ sym (more true (asked ∙ w.if-not-is-among.false)) ∙ c.loop-row.invariant
+    let asked = ap (among order x) (sym c.as_slice.ensures.value) ∙ sym c.is_among.ensures in
+    elim c.if-not-is_among.branch [
+      | then-not-is_among+in_ok-push w ↦
+          ap (λ s. gathered order s (drop (i + 1) rows)) (ap vec_items w.seen-is ∙ w.in_ok-push.ensures.items) ∙ sym (more false (asked ∙ w.if-not-is_among.true)) ∙ c.loop-row.invariant
+      | else-not-is_among w ↦
+          ap (λ s. gathered order s (drop (i + 1) rows)) (ap vec_items w.seen-is) ∙ sym (more true (asked ∙ w.if-not-is_among.false)) ∙ c.loop-row.invariant
     ]
 
 pub returns : goal.returns

@@ -4,23 +4,23 @@ use Rattle.keeper.specs.Dealings.{system}
 use Rattle.runs.specs.Ran.{Fitting}
 use Rattle.runs.proofs.Went.{run_more, run_whole, went_lawful}
 use Rattle.runs.proofs.running.run.Goals as goal
-use Rattle.runs.proofs.running.run.Goals.{then-table-table-len-via-then-table-table-len, then-table-table-len-via-else-table-table-len+then-log-log-len}
+use Rattle.runs.proofs.running.run.Goals.{then-table-table_len-via-then-table-table_len, then-table-table_len-via-else-table-table_len+then-log-log_len}
 
 -- lists of other lengths
-pub returns-then-table-table-len : goal.returns-then-table-table-len
-returns-then-table-table-len g c = record {
+pub returns-then-table-table_len : goal.returns-then-table-table_len
+returns-then-table-table_len g c = record {
   ran = (refl, (λ f. other f), refl, refl, refl, refl, refl, refl);
   lawful = tt;
 }
   where
     other : Fitting c.args.keeper.now c.args.table.now c.args.log.now → ⊥
-    other f = elim c.then-table-table-len.branch [
-      | then-table-table-len-via-then-table-table-len w ↦ w.if-table-table-len.true (f.0 ∙ sym c.table-len.ensures)
-      | then-table-table-len-via-else-table-table-len+then-log-log-len w ↦ w.if-log-log-len.true (f.1 ∙ sym w.log_len.ensures)
+    other f = elim c.then-table-table_len.branch [
+      | then-table-table_len-via-then-table-table_len w ↦ w.if-table-table_len.true (f.0 ∙ sym c.table_len.ensures)
+      | then-table-table_len-via-else-table-table_len+then-log-log_len w ↦ w.if-log-log_len.true (f.1 ∙ sym w.log_len.ensures)
     ]
 
 pub loop-entry-init : goal.loop-entry-init
-loop-entry-init g c = (refl, refl, refl, c.if-table-table-len.false ∙ c.table-len.ensures, c.if-log-log-len.false ∙ c.log_len.ensures)
+loop-entry-init g c = (refl, refl, refl, c.if-table-table_len.false ∙ c.table_len.ensures, c.if-log-log_len.false ∙ c.log_len.ensures)
 
 pub step-requires : goal.step-requires
 step-requires g c = record { table = c.loop-entry.invariant.3; log = c.loop-entry.invariant.4 }
@@ -40,7 +40,7 @@ returns g c =
     let places = g.S.Store.places c.args.store.now in
     let K = (kinds g.Row.Row.order g.Row.Row.amount g.P.Predicate.holds g.P.Predicate.apart g.P.Predicate.covers) in
     let went = run_whole K g.W.WaitPolicy.allows c.args.transcript.now c.loop-entry.transcript k c.loop-entry.keeper table c.loop-entry.table log c.loop-entry.log rows (g.S.Store.rows c.loop-entry.store) places (g.S.Store.places c.loop-entry.store) c.loop-entry.entry-index _ _
-    (c.if-table-table-len.false ∙ c.table-len.ensures, c.if-log-log-len.false ∙ c.log_len.ensures) c.loop-entry-test.false c.loop-entry.auto.transcript c.loop-entry.invariant in
+    (c.if-table-table_len.false ∙ c.table_len.ensures, c.if-log-log_len.false ∙ c.log_len.ensures) c.loop-entry-test.false c.loop-entry.auto.transcript c.loop-entry.invariant in
     record {
       ran = went;
       lawful = went_lawful K g.W.WaitPolicy.allows

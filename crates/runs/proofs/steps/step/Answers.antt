@@ -35,5 +35,5 @@ returns-in-Withdraw g c =
 
 pub returns-in-Data : goal.returns-in-Data
 returns-in-Data g c =
-    steps_data (kinds g.Row.Row.order g.Row.Row.amount g.P.Predicate.holds g.P.Predicate.apart g.P.Predicate.covers) g.W.WaitPolicy.allows c.args.keeper.now c.data-step.new.keeper c.args.table.now c.args.table.now c.args.log.now c.data-step.new.log (g.S.Store.rows c.args.store.now) (g.S.Store.places c.args.store.now) c.args.call.now c.data-step.result c.requires.table c.requires.log
-    c.in-Data.job c.in-Data.call (g.S.Store.rows c.data-step.new.store) (g.S.Store.places c.data-step.new.store) c.in-Data.is refl c.data-step.ensures
+    steps_data (kinds g.Row.Row.order g.Row.Row.amount g.P.Predicate.holds g.P.Predicate.apart g.P.Predicate.covers) g.W.WaitPolicy.allows c.args.keeper.now c.data_step.new.keeper c.args.table.now c.args.table.now c.args.log.now c.data_step.new.log (g.S.Store.rows c.args.store.now) (g.S.Store.places c.args.store.now) c.args.call.now c.data_step.result c.requires.table c.requires.log
+    c.in-Data.job c.in-Data.call (g.S.Store.rows c.data_step.new.store) (g.S.Store.places c.data_step.new.store) c.in-Data.is refl c.data_step.ensures

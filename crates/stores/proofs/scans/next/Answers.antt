@@ -30,6 +30,6 @@ loop-at-preserved g c = search_on g.met.S.Row.Row.strict c.after-at-in-Some-at.e
 pub returns : goal.returns
 returns g c =
     elim c.match-given.branch [
-      | in-Some w ↦ search_none (start_after g.met.S.Row.Row.strict w.after-at.ensures.sound w.in-Some.is (w.at-is ∙ w.after-at.ensures.answer)) c.in-default.is c.loop-at.invariant
-      | in-None w ↦ search_none (start_first g.met.S.Row.Row.strict w.first-at.ensures.sound w.in-None.is (w.at-is ∙ w.first-at.ensures.answer)) c.in-default.is c.loop-at.invariant
+      | in-Some w ↦ search_none (start_after g.met.S.Row.Row.strict w.after-at.ensures.sound w.in-Some.is (w.at-is ∙ w.after-at.ensures.answer)) c.in_default.is c.loop-at.invariant
+      | in-None w ↦ search_none (start_first g.met.S.Row.Row.strict w.first-at.ensures.sound w.in-None.is (w.at-is ∙ w.first-at.ensures.answer)) c.in_default.is c.loop-at.invariant
     ]

@@ -5,7 +5,7 @@ use Rattle.tables.specs.Locks.{conflicts}
 use Rattle.tables.specs.Holders.{gathered, noting}
 use Rattle.tables.proofs.Gathering.{gather_step, gather_all, any_smallest, barred_smallest}
 use Rattle.tables.proofs.holders.gather.Goals as goal
-use Rattle.tables.proofs.holders.gather.Goals.{then-conflicts-with, else-conflicts-with}
+use Rattle.tables.proofs.holders.gather.Goals.{then-conflicts_with, else-conflicts_with}
 
 pub loop-i-preserved : goal.loop-i-preserved
 loop-i-preserved g c =
@@ -16,9 +16,9 @@ loop-i-preserved g c =
     let f = c.loop-i.holders in
     let e = c.index-locks-i.result in
     let step = gather_step allows c.args.class c.args.job hits xs i f e in
-    elim c.if-conflicts-with.branch [
-      | then-conflicts-with w ↦ ap (λ (h : Holders). gathered allows c.args.class c.args.job h (keep hits (drop (i + 1) xs))) (w.holders-is ∙ w.noting-holders.ensures) ∙ step true c.loop-i-test.true c.index-locks-i.is (sym w.if-conflicts-with.ensures) ∙ c.loop-i.invariant
-      | else-conflicts-with w ↦ ap (λ (h : Holders). gathered allows c.args.class c.args.job h (keep hits (drop (i + 1) xs))) w.holders-is ∙ step false c.loop-i-test.true c.index-locks-i.is (sym w.if-conflicts-with.ensures) ∙ c.loop-i.invariant
+    elim c.if-conflicts_with.branch [
+      | then-conflicts_with w ↦ ap (λ (h : Holders). gathered allows c.args.class c.args.job h (keep hits (drop (i + 1) xs))) (w.holders-is ∙ w.noting-holders.ensures) ∙ step true c.loop-i-test.true c.index-locks-i.is (sym w.if-conflicts_with.ensures) ∙ c.loop-i.invariant
+      | else-conflicts_with w ↦ ap (λ (h : Holders). gathered allows c.args.class c.args.job h (keep hits (drop (i + 1) xs))) w.holders-is ∙ step false c.loop-i-test.true c.index-locks-i.is (sym w.if-conflicts_with.ensures) ∙ c.loop-i.invariant
     ]
 
 pub returns : goal.returns

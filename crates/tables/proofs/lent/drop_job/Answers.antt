@@ -2,17 +2,17 @@ use Rattle.std.proofs.Common.{◌≡◌, length, take, ap, ◌∙◌, arith}
 use Rattle.tables.specs.Lent.{of_job, of_others}
 use Rattle.tables.proofs.Moves.{moved_stays, moved_goes, front_is}
 use Rattle.tables.proofs.lent.drop_job.Goals as goal
-use Rattle.tables.proofs.lent.drop_job.Goals.{then-not-is-of, else-not-is-of}
+use Rattle.tables.proofs.lent.drop_job.Goals.{then-not-is_of, else-not-is_of}
 
 pub loop-i-preserved : goal.loop-i-preserved
 loop-i-preserved g c =
-    elim c.if-not-is-of.branch [
-      | then-not-is-of w ↦
+    elim c.if-not-is_of.branch [
+      | then-not-is_of w ↦
           moved_stays g.E.OfJob.owner c.args.job c.args.list.now c.loop-i.i c.index-list-i.result c.loop-i.list c.loop-i.rest c.loop-i.auto.list (omega arith) c.index-list-i.is c.loop-i.invariant
-          c.if-not-is-of.list c.if-not-is-of.rest w.list-is w.rest-is w.if-not-is-of.ensures
-      | else-not-is-of w ↦
+          c.if-not-is_of.list c.if-not-is_of.rest w.list-is w.rest-is w.if-not-is_of.ensures
+      | else-not-is_of w ↦
           moved_goes g.E.OfJob.owner c.args.job c.args.list.now c.loop-i.i c.index-list-i.result c.loop-i.list c.loop-i.rest c.loop-i.auto.list (omega arith) c.index-list-i.is c.loop-i.invariant
-          c.if-not-is-of.list c.if-not-is-of.rest w.list-is w.rest-is w.if-not-is-of.ensures
+          c.if-not-is_of.list c.if-not-is_of.rest w.list-is w.rest-is w.if-not-is_of.ensures
     ]
 
 pub returns : goal.returns

@@ -5,14 +5,14 @@ use Rattle.tables.specs.Locks.{is_lock}
 use Rattle.tables.proofs.Locking.{lock_here, not_here_some, not_here_rest}
 use Rattle.tables.proofs.lent.find_lock.Goals as goal
 
-pub returns-then-is-lock : goal.returns-then-is-lock
-returns-then-is-lock g c =
-    lock_here c.args.job c.args.number c.args.locks.now c.loop-i.i c.index-locks-i.result c.loop-i-test.true c.index-locks-i.is c.loop-i.invariant.0 c.loop-i.invariant.1 c.if-is-lock.ensures
+pub returns-then-is_lock : goal.returns-then-is_lock
+returns-then-is_lock g c =
+    lock_here c.args.job c.args.number c.args.locks.now c.loop-i.i c.index-locks-i.result c.loop-i-test.true c.index-locks-i.is c.loop-i.invariant.0 c.loop-i.invariant.1 c.if-is_lock.ensures
 
 pub loop-i-preserved : goal.loop-i-preserved
 loop-i-preserved g c = (
-  not_here_some c.args.job c.args.number c.args.locks.now c.loop-i.i c.index-locks-i.result c.loop-i-test.true c.index-locks-i.is c.if-is-lock.ensures ∙ c.loop-i.invariant.0,
-  c.loop-i.invariant.1 ∙ sym (not_here_rest c.args.job c.args.number c.args.locks.now c.loop-i.i c.index-locks-i.result c.loop-i-test.true c.index-locks-i.is c.if-is-lock.ensures),
+  not_here_some c.args.job c.args.number c.args.locks.now c.loop-i.i c.index-locks-i.result c.loop-i-test.true c.index-locks-i.is c.if-is_lock.ensures ∙ c.loop-i.invariant.0,
+  c.loop-i.invariant.1 ∙ sym (not_here_rest c.args.job c.args.number c.args.locks.now c.loop-i.i c.index-locks-i.result c.loop-i-test.true c.index-locks-i.is c.if-is_lock.ensures),
 )
 
 pub returns : goal.returns

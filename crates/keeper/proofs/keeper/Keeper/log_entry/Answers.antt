@@ -2,11 +2,11 @@ use Rattle.std.proofs.Common.{refl}
 use Rattle.keeper.proofs.Dealt.{room_asking, log_asking}
 use Rattle.keeper.proofs.keeper.Keeper.log_entry.Goals as goal
 
-pub invariant-of-self : goal.invariant-of-self
-invariant-of-self g c =
-    (c.args.self.now.locks, (room_asking c.args.self.now c.args.log.now c.requires.long c.args.asker.turn c.if-is-none.ensures c.requires.room, tt))
+pub invariant_of-self : goal.invariant_of-self
+invariant_of-self g c =
+    (c.args.self.now.locks, (room_asking c.args.self.now c.args.log.now c.requires.long c.args.asker.turn c.if-is_none.ensures c.requires.room, tt))
 
-pub returns-then-is-none : goal.returns-then-is-none
-returns-then-is-none g c =
-    log_asking c.args.self.now c.args.log.now c.requires.long c.args.asker.number c.args.alteration c.args.asker.turn c.if-is-none.ensures c.requires.room _ c.append.new.list
+pub returns-then-is_none : goal.returns-then-is_none
+returns-then-is_none g c =
+    log_asking c.args.self.now c.args.log.now c.requires.long c.args.asker.number c.args.alteration c.args.asker.turn c.if-is_none.ensures c.requires.room _ c.append.new.list
     c.append.ensures.list refl refl refl refl refl

@@ -3,5 +3,5 @@ use Rattle.scripts.proofs.item.trip_box_item.trip_box.Goals as goal
 
 pub returns : goal.returns
 returns c =
-    box_read c.args.words.now _ _ _ _ c.told-words c.in-ok-van.ensures c.in-ok-day.ensures
-    c.in-ok-second.ensures c.in-ok-metres.ensures c.new-5.result c.new-5.ensures
+    box_read c.args.words.now _ _ _ _ c.told-words c.in_ok-van.ensures c.in_ok-day.ensures
+    c.in_ok-second.ensures c.in_ok-metres.ensures c.new-5.result c.new-5.ensures
