@@ -65,7 +65,7 @@ fn step<P: Predicate, R: Copy, W: WaitPolicy>(
 ) -> Answer
     requires table { length table.old ≡ keeper.old.table }
     requires log { length log.old ≡ keeper.old.log }
-    ensures { Steps apart allows call.now keeper.old table.old log.old result keeper.new table.new log.new }
+    ensures { Steps P.apart W.allows call.now keeper.old table.old log.old result keeper.new table.new log.new }
 {
     match *call {
         Call::Open { class } => opened(keeper.open(class)),
@@ -88,8 +88,8 @@ pub fn run<P: Predicate, R: Copy, W: WaitPolicy>(
     log: &mut [UndoEntry<R>],
     transcript: &mut [Entry<P>],
 ) -> Result<(), Refusal>
-    ensures ran { Ran apart allows keeper.old table.old log.old transcript.old result keeper.new table.new log.new transcript.new }
-    ensures lawful { Lawful apart allows keeper.old result keeper.new table.new log.new transcript.new }
+    ensures ran { Ran P.apart W.allows keeper.old table.old log.old transcript.old result keeper.new table.new log.new transcript.new }
+    ensures lawful { Lawful P.apart W.allows keeper.old result keeper.new table.new log.new transcript.new }
 {
     if table.len() != keeper.table_len() || log.len() != keeper.log_len() {
         return Err(Refusal::WrongBook);
@@ -107,7 +107,7 @@ pub fn begin<P: Predicate, R: Copy, W: WaitPolicy>(
     log: &mut [UndoEntry<R>],
     transcript: &mut [Entry<P>],
 ) -> Result<Keeper, Refusal>
-    ensures { Began apart allows table.old log.old transcript.old result table.new log.new transcript.new }
+    ensures { Began P.apart W.allows table.old log.old transcript.old result table.new log.new transcript.new }
 {
     match Keeper::new(table.len(), log.len()) {
         Err(refusal) => Err(refusal),

@@ -1,5 +1,5 @@
 -- Numbers that are the same or not.
-use Rattle.std.proofs.Common.{◌≡◌, ℕ, Bool, true, false, T, eqb, ◌≢◌, sym, refl, ap, ◌∙◌, subst, true≢false, eqb→eq}
+use Rattle.std.proofs.Common.{◌≡◌, ℕ, Bool, true, false, T, eqb, ◌≢◌, sym, refl, ◌∙◌, subst, true≢false, eqb→eq}
 use mathlib.Core.Bool.{false≢true}
 use lib.Dec.{eqb_refl}
 use Rattle.tables.specs.Lists.{is}

@@ -1,11 +1,10 @@
 -- What each change of the table keeps, and that it is the change that the definitions make.
-use Rattle.std.proofs.Common.{◌≡◌, ℕ, zero, suc, ◌+◌, ◌<◌, ◌≤◌, Bool, true, false, cond, List, [], ◌∷◌, map, length, get_or, set, is_some, Some, None, Ok, Option, sym, refl, ap, ◌∙◌, subst, arith, length-set}
+use Rattle.std.proofs.Common.{◌≡◌, ℕ, zero, suc, ◌+◌, ◌<◌, ◌≤◌, Bool, true, false, cond, List, [], ◌∷◌, length, get_or, set, is_some, Some, None, Ok, Option, sym, refl, ap, ◌∙◌, subst, arith}
 use lib.ListN.{length-map}
 use Rattle.tables.specs.declared.ledger.JobRecord.{JobRecord}
 use Rattle.tables.specs.declared.ledger.Ledger.{Ledger}
 use Rattle.tables.specs.declared.job_table.places.Opened.{Opened}
-use Rattle.tables.specs.Lists.{is}
-use Rattle.tables.specs.Jobs.{Outcome, Gives, find, fill, job_of, set_turn, turn_slot, clear_slot, on_found, not_turned, give, turn_on, turn_ledger, end_ledger, open_ledger}
+use Rattle.tables.specs.Jobs.{Outcome, Gives, find, job_of, turn_slot, clear_slot, on_found, not_turned, give, turn_on, turn_ledger, end_ledger, open_ledger}
 use Rattle.tables.specs.Places.{Stands, Free, filled_at, turned_at, ended_at}
 use Rattle.tables.specs.Tables.{unique, all_below, asking_slot, asking_one, asking}
 use Rattle.tables.proofs.Tabled.{map_absent, find_named, map_at, turn_stays, clear_stays, length_fill, below_fill, unique_fill, asking_fill, unique_kept, below_kept, asking_kept, asking_less, turn_keeps, turn_fewer, clear_keeps, clear_fewer}

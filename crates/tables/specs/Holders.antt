@@ -2,7 +2,6 @@
 use Rattle.std.specs.Prelude.{ℕ, Bool, cond, List, [], ◌∷◌, Some, None, Option, nat_lt}
 use Rattle.tables.specs.declared.entries.LockEntry.{LockEntry}
 use Rattle.tables.specs.declared.holders.Holders.{Holders}
-use Rattle.tables.specs.Locks.{barred}
 
 abbrev pub lesser : Option ℕ → ℕ → Option ℕ
 lesser None n = Some n

@@ -93,7 +93,7 @@ impl<P: Copy> LockEntry<P> {
 impl<P: Predicate> LockEntry<P> {
     // Whether the request conflicts with this lock: it is of another job and not apart, and one of the two writes.
     pub fn conflicts_with(&self, job: u32, mode: Mode, predicate: &P) -> bool
-        ensures { result ≡ conflicts apart job mode predicate.now self.now }
+        ensures { result ≡ conflicts P.apart job mode predicate.now self.now }
     {
         !self.is_of(job) && mode.excludes(self.mode) && !self.predicate.apart(predicate)
     }

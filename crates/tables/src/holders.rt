@@ -33,7 +33,7 @@ impl Holders {
         job: u32,
         entry: &LockEntry<P>,
     ) -> Holders
-        ensures { result ≡ noting allows class job self entry.now }
+        ensures { result ≡ noting W.allows class job self entry.now }
     {
         let any = lesser(self.any, entry.job);
         let barred = if policy.may_wait(class, job, entry.class, entry.job) {
@@ -54,8 +54,8 @@ pub fn gather<P: Predicate, W: WaitPolicy>(
     mode: Mode,
     predicate: &P,
 ) -> Holders
-    ensures any { result.any ≡ smallest_of (keep (conflicts apart job mode predicate.now) locks.now) }
-    ensures barred { result.barred ≡ barred_of allows class job (keep (conflicts apart job mode predicate.now) locks.now) }
+    ensures any { result.any ≡ smallest_of (keep (conflicts P.apart job mode predicate.now) locks.now) }
+    ensures barred { result.barred ≡ barred_of W.allows class job (keep (conflicts P.apart job mode predicate.now) locks.now) }
 {
     let mut holders = Holders {
         any: None,

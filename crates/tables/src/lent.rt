@@ -18,7 +18,7 @@ pub fn append<E: Copy>(list: &mut [E], used: usize, entry: E) -> bool
 
 // Gives up the entries of a job: the others move up in their order. Answers how many there are then.
 pub fn drop_job<E: OfJob>(list: &mut [E], used: usize, job: u32) -> usize
-    ensures { Dropped owner job (take used list.old) result list.new }
+    ensures { Dropped E.owner job (take used list.old) result list.new }
 {
     let end = used.min(list.len());
     let mut rest = 0;

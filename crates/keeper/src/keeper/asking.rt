@@ -22,7 +22,7 @@ impl Keeper {
         job: u32,
         predicate: &P,
     ) -> Result<JobRecord, Refusal>
-        ensures { result ≡ admit_read covers job predicate.now self.now table.now }
+        ensures { result ≡ admit_read P.covers job predicate.now self.now table.now }
     {
         if table.len() != self.table {
             return Err(Refusal::WrongBook);

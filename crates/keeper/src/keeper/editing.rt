@@ -24,7 +24,7 @@ impl Keeper {
         job: u32,
         alteration: Alteration<P::Row>,
     ) -> Result<JobRecord, Refusal>
-        ensures { result ≡ admit_write holds job (rows_of alteration) self.now table.now log }
+        ensures { result ≡ admit_write P.holds job (rows_of alteration) self.now table.now log }
     {
         if table.len() != self.table || log != self.log {
             return Err(Refusal::WrongBook);

@@ -21,7 +21,7 @@ impl Keeper {
         mode: Mode,
         predicate: P,
     ) -> Result<LockAnswer, Refusal>
-        ensures { LocksSo (lock_with apart allows job mode predicate self.old table.old) result self.old self.new table.new }
+        ensures { LocksSo (lock_with P.apart W.allows job mode predicate self.old table.old) result self.old self.new table.new }
     {
         if table.len() != self.table {
             return Err(Refusal::WrongBook);

@@ -1,7 +1,6 @@
-use Rattle.std.proofs.Common.{◌≡◌, ◌-◌, true, false, length, take, sym, ap, ◌∙◌, subst, arith}
+use Rattle.std.proofs.Common.{◌≡◌, ◌-◌, length, take, sym, ap, ◌∙◌, arith}
 use Rattle.tables.specs.Lists.{some_of}
 use Rattle.tables.specs.Locks.{is_lock, release_one}
-use Rattle.tables.specs.Lent.{Found_at, Released}
 use Rattle.tables.proofs.Moves.{front_is}
 use Rattle.tables.proofs.Locking.{no_release}
 use Rattle.tables.proofs.lent.release.Goals as goal

@@ -4,7 +4,7 @@ use Rattle.tables.proofs.undo.undo_job.Goals as goal
 
 pub loop-i-init : goal.loop-i-init
 loop-i-init g c =
-    let order = g.Row.Row.order in
+    let order = g.S.Row.Row.order in
     let room = g.S.Store.places c.args.store.now in
     let job = c.args.job in
     let first = g.S.Store.rows c.args.store.now in

@@ -5,7 +5,7 @@ use Rattle.tables.proofs.undo.undo_job.Given as goal
 -- the job's entries from i on are undone
 abbrev pub invariant-loop-i : goal.invariant-loop-i
 invariant-loop-i g l =
-    let order = g.Row.Row.order in
+    let order = g.S.Row.Row.order in
     let room = g.S.Store.places l.initial.store in
     let first = g.S.Store.rows l.initial.store in
     Undoes order room l.job first l.log

@@ -7,7 +7,7 @@ invariant_of-self c =
     let k = c.args.self.now in
     let S : Sound k.ledger = record { full = k.full; apart = k.apart; below = k.below; spent = k.spent; locks = k.locks; counted = k.counted } in
     let s = end_sound k.ledger c.args.job c.in-Some.open S c.in-Some.ensures c.end_at.new.self c.end_at.ensures in
-    (s.full, (s.apart, (s.below, (s.spent, (s.locks, (s.counted, tt))))))
+    record { full = s.full; apart = s.apart; below = s.below; spent = s.spent; locks = s.locks; counted = s.counted }
 
 pub returns-in-Some : goal.returns-in-Some
 returns-in-Some c =

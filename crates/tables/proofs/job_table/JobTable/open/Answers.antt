@@ -6,4 +6,4 @@ invariant_of-self c =
     let k = c.args.self.now in
     let S : Sound k.ledger = record { full = k.full; apart = k.apart; below = k.below; spent = k.spent; locks = k.locks; counted = k.counted } in
     let s = open_sound k.ledger c.fill_at.new.self c.in-Some.place c.args.class c.fill_at.ensures c.in-Some.ensures c.if-number-gt1000000.false S in
-    (s.full, (s.apart, (s.below, (s.spent, (s.locks, (s.counted, tt))))))
+    record { full = s.full; apart = s.apart; below = s.below; spent = s.spent; locks = s.locks; counted = s.counted }

@@ -13,7 +13,7 @@ invariant_of-self c =
     let k = c.args.self.now in
     let S : Sound k.ledger = record { full = k.full; apart = k.apart; below = k.below; spent = k.spent; locks = k.locks; counted = k.counted } in
     let s = turn_sound k.ledger c.args.job c.in-Some.open S c.in-Some.ensures c.turn_at.new.self c.turn_at.ensures (turn_none c.in-Some.open.job.turn c.if-is_some.ensures) in
-    (s.full, (s.apart, (s.below, (s.spent, (s.locks, (s.counted, tt))))))
+    record { full = s.full; apart = s.apart; below = s.below; spent = s.spent; locks = s.locks; counted = s.counted }
 
 pub returns : goal.returns
 returns c =
