@@ -12,7 +12,7 @@ use std::alloc::Global;
 // The item that the numbers of a line stand for, at the end of the line.
 fn finish<const N: usize, T: Item<N>>(cursor: &mut Cursor, words: &[u32; N]) -> Result<T, Cause>
     ensures text { cursor.new.text ≡ cursor.old.text }
-    ensures read { Finds T.numbers (judged N valid fault words.now (rest cursor.old)) result (rest cursor.new) }
+    ensures read { Finds T.numbers (judged N T.valid T.fault words.now (rest cursor.old)) result (rest cursor.new) }
 {
     let item = T::make(words)?;
     cursor.pass(b'\n')?;
@@ -29,7 +29,7 @@ pub(crate) fn items<const N: usize, T: Item<N>>(
     requires width { N ≤ 8 }
     requires lines { first + count < 2 ^ 32 }
     ensures text { cursor.new.text ≡ cursor.old.text }
-    ensures read { Gives (λ v. map T.numbers v.items) (items N valid fault count first (rest cursor.old)) result (rest cursor.new) }
+    ensures read { Gives (λ v. map T.numbers v.items) (items N T.valid T.fault count first (rest cursor.old)) result (rest cursor.new) }
 {
     let mut list = Vec::new(heap);
     let mut stop = None;

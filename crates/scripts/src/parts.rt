@@ -37,7 +37,7 @@ fn section<const N: usize, T: Item<N>>(
     requires width { N ≤ 8 }
     requires lines { line + 1 + most < 2 ^ 32 }
     ensures text { cursor.new.text ≡ cursor.old.text }
-    ensures read { Gives (λ v. map T.numbers v.items) (section N valid fault most line (rest cursor.old)) result (rest cursor.new) }
+    ensures read { Gives (λ v. map T.numbers v.items) (section N T.valid T.fault most line (rest cursor.old)) result (rest cursor.new) }
     ensures few { IfOk result (λ v. vec_len v ≤ most) }
 {
     match count(cursor, most) {

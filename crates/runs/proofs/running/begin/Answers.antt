@@ -11,5 +11,5 @@ returns-in-Err-run g c =
 
 pub returns-in-Ok-run : goal.returns-in-Ok-run
 returns-in-Ok-run g c =
-    began_well (kinds g.Row.Row.order g.Row.Row.amount g.P.Predicate.holds g.P.Predicate.apart g.P.Predicate.covers) g.W.WaitPolicy.allows c.in-Ok.made c.run.new.keeper c.args.table.now c.run.new.table c.args.log.now c.run.new.log (g.S.Store.rows c.args.store.now) (g.S.Store.rows c.run.new.store) (g.S.Store.places c.args.store.now) (g.S.Store.places c.run.new.store) c.args.transcript.now c.run.new.transcript
+    began_well (kinds g.P.Row.Row.order g.P.Row.Row.amount g.P.Predicate.holds g.P.Predicate.apart g.P.Predicate.covers) g.W.WaitPolicy.allows c.in-Ok.made c.run.new.keeper c.args.table.now c.run.new.table c.args.log.now c.run.new.log (g.S.Store.rows c.args.store.now) (g.S.Store.rows c.run.new.store) (g.S.Store.places c.args.store.now) (g.S.Store.places c.run.new.store) c.args.transcript.now c.run.new.transcript
     c.in-Ok-run.ensures.ran c.in-Ok.ensures c.in-Ok-run.ensures.lawful

@@ -22,9 +22,9 @@ lines-preserved g c =
     let out = c.lines.invariant in
     let told = c.in-Ok-finish.ensures in
     let n = g.row.N in
-    let valid = g.T-as-Item.valid in
-    let fault = g.T-as-Item.fault in
-    let numbers = g.T-as-Item.numbers in
+    let valid = g.T.Item.valid in
+    let fault = g.T.Item.fault in
+    let numbers = g.T.Item.numbers in
     let count = c.args.count in
     let first = c.args.first in
     let i = c.lines.i in
@@ -46,9 +46,9 @@ pub returns-in-Some : goal.returns-in-Some
 returns-in-Some g c =
     let out = c.lines.invariant in
     let n = g.row.N in
-    let valid = g.T-as-Item.valid in
-    let fault = g.T-as-Item.fault in
-    let stops = items_stop n valid fault g.T-as-Item.numbers c.args.count c.args.first c.lines.i (vec_items c.lines.list) (rest c.lines.cursor) _ out.2 in
+    let valid = g.T.Item.valid in
+    let fault = g.T.Item.fault in
+    let stops = items_stop n valid fault g.T.Item.numbers c.args.count c.args.first c.lines.i (vec_items c.lines.list) (rest c.lines.cursor) _ out.2 in
     elim c.lines-test.branch [
       | else-lines-test w ↦ absurd (never c.in-Some.is (w.stop-is ∙ out.1))
       | then-lines-test+then-loop-j-test+in-Err w ↦

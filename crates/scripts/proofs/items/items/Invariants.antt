@@ -13,6 +13,6 @@ invariant-loop-j g l =
 -- what is left of the text gives the items that are still to come
 abbrev pub invariant-lines : goal.invariant-lines
 invariant-lines g l =
-    let read = items g.row.N g.T-as-Item.valid g.T-as-Item.fault in
+    let read = items g.row.N g.T.Item.valid g.T.Item.fault in
     (l.cursor.text ≡ l.initial.cursor.text) × (l.stop ≡ None)
-    × (read l.count l.first (rest l.initial.cursor) ≡ and_then (read (l.count - l.i) (l.first + l.i) (rest l.cursor)) (λ more t. Ok (map g.T-as-Item.numbers (vec_items l.list) ++ more, t)))
+    × (read l.count l.first (rest l.initial.cursor) ≡ and_then (read (l.count - l.i) (l.first + l.i) (rest l.cursor)) (λ more t. Ok (map g.T.Item.numbers (vec_items l.list) ++ more, t)))

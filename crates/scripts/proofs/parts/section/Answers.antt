@@ -10,9 +10,9 @@ pub returns-in-Ok : goal.returns-in-Ok
 returns-in-Ok g c =
     let told = c.in-Ok.ensures in
     let n = g.row.N in
-    let valid = g.T-as-Item.valid in
-    let fault = g.T-as-Item.fault in
-    let numbers = g.T-as-Item.numbers in
+    let valid = g.T.Item.valid in
+    let fault = g.T.Item.fault in
+    let numbers = g.T.Item.numbers in
     let line = c.args.line in
     let most = c.args.most in
     let start = rest c.args.cursor.now in

@@ -5,7 +5,7 @@ use Rattle.calls.specs.States.{State, turn_job}
 use Rattle.keeper.specs.Fronts.{front}
 use Rattle.keeper.proofs.Told.{close_told, close_gives_turned, close_gives_asking, turn_with_parts}
 use Rattle.keeper.proofs.keeper.Keeper.close.Goals as goal
-use Rattle.keeper.proofs.keeper.Keeper.close.Goals.{in-Some-turn, in-None+in_ok-turn}
+use Rattle.keeper.proofs.keeper.Keeper.close.Goals.{in-Some-turn, in-None+in_ok-turn-in-None}
 
 pub returns : goal.returns
 returns g c =
@@ -24,7 +24,7 @@ returns g c =
           told (ap (λ (x : Keeper). x.held) same) (ap (λ (x : Keeper). x.table) same) (ap (λ (x : Keeper). x.log) same) c.end.ensures refl refl refl c.drop_job-rest.ensures
           σ refl refl refl (ap (λ (x : Keeper). x.jobs.ledger) same) (ap (λ (n : ℕ). take n c.match-open.log) logged ∙ ap (take k.logged) w.log-is)
           (logged ∙ sym (length-take-le k.logged log (omega (arith, c.if-log-self.false)))) (close_gives_turned j σ c.in-Some.open c.match-open.turn found (w.in-Some-turn.is ∙ ap (λ (n : ℕ). Some n) (sym w.turn-is)))
-      | in-None+in_ok-turn w ↦
+      | in-None+in_ok-turn-in-None w ↦
           let k₁ = w.turn.new.self in
           let same = w.self-is in
           let L = w.in_ok-turn.ensures in

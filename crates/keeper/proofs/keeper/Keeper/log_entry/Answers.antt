@@ -4,7 +4,10 @@ use Rattle.keeper.proofs.keeper.Keeper.log_entry.Goals as goal
 
 pub invariant_of-self : goal.invariant_of-self
 invariant_of-self g c =
-    (c.args.self.now.locks, (room_asking c.args.self.now c.args.log.now c.requires.long c.args.asker.turn c.if-is_none.ensures c.requires.room, tt))
+    record {
+      locks = c.args.self.now.locks;
+      undos = room_asking c.args.self.now c.args.log.now c.requires.long c.args.asker.turn c.if-is_none.ensures c.requires.room;
+    }
 
 pub returns-then-is_none : goal.returns-then-is_none
 returns-then-is_none g c =
