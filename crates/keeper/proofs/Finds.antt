@@ -3,7 +3,7 @@ use Rattle.std.proofs.Common.{◌≡◌, ℕ, Bool, true, false, cond, ◌≢◌
 use Rattle.tables.specs.declared.ledger.JobRecord.{JobRecord}
 use Rattle.tables.specs.Lists.{is}
 use Rattle.tables.specs.Jobs.{find, fill, job_of, set_turn, turn_slot, clear_slot}
-use Rattle.tables.proofs.Lists.{both, is_means, is_other, not_is, is_self}
+use Rattle.tables.proofs.Lists.{both, is_means}
 use Rattle.keeper.proofs.Listed.{zero_one}
 
 pub same_job : {a b : JobRecord} → ◌≡◌ {A = Option JobRecord} (Some a) (Some b) → a ≡ b

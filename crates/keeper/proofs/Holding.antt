@@ -1,30 +1,19 @@
 -- What every run keeps true, call by call.
-use Rattle.std.proofs.Common.{◌≡◌, ℕ, suc, ◌+◌, ◌^◌, ◌<◌, ◌≤◌, Bool, true, false, cond, not, ltb, leb, ◌≢◌, ◌⊎◌, List, [], ◌∷◌, ◌++◌, map, length, Some, None, Ok, Err, Option, sym, refl, ap, ◌∙◌, subst, inl, inr, true≢false, append_assoc, append-nil, add-one, arith, length-append}
+use Rattle.std.proofs.Common.{◌≡◌, ℕ, suc, ◌+◌, ◌<◌, ◌≤◌, Bool, true, false, cond, not, ◌≢◌, ◌⊎◌, List, [], ◌∷◌, ◌++◌, length, Some, None, Option, sym, refl, ap, ◌∙◌, subst, inl, inr, append-nil, arith}
 use Rattle.std.proofs.lemmas.List.{length_push}
-use Rattle.std.proofs.lemmas.Bool.{leb-true}
-use Rattle.policies.specs.Ranks.{Ranked}
 use Rattle.tables.specs.declared.entries.LockEntry.{LockEntry}
 use Rattle.tables.specs.declared.entries.Mode.{Mode}
 use Rattle.tables.specs.declared.ledger.JobRecord.{JobRecord}
-use Rattle.tables.specs.declared.ledger.Ledger.{Ledger}
-use Rattle.tables.specs.declared.refusal.Refusal.{Refusal}
-use Rattle.tables.specs.declared.refusal.Refusal.TheVariants.{NoSuchJob, HasTurned, BadClass, NoPlace, NumbersSpent, BookFull, NotTurned, NotYourLock}
-use Rattle.tables.specs.Lists.{is, In, keep, some_of}
-use Rattle.tables.specs.Locks.{conflicts, barred, smallest_of, barred_of, is_lock, release_one}
-use Rattle.tables.specs.Lent.{of_job, of_others}
-use Rattle.tables.specs.Jobs.{Outcome, refuse, give, check, on_found, not_turned, find, job_of, set_turn, is_free, open_ledger, open_on, turn_ledger, end_ledger}
-use Rattle.tables.proofs.Lists.{both, Same, same, other, same?, is_means, is_other, is_self, not_is}
+use Rattle.tables.specs.Lists.{is, In, keep}
+use Rattle.tables.specs.Locks.{conflicts, smallest_of, is_lock, release_one}
+use Rattle.tables.specs.Jobs.{find, job_of, set_turn, open_ledger}
+use Rattle.tables.proofs.Lists.{both, Same, same, other, same?, is_means, is_other, is_self}
 use Rattle.tables.proofs.Tabled.{find_named}
-use Rattle.calls.specs.declared.lock_answer.LockAnswer.{LockAnswer}
-use Rattle.calls.specs.declared.lock_answer.LockAnswer.TheVariants.{Granted, Wait, Withdraw}
-use Rattle.keeper.specs.declared.transcript.Call.{Call}
-use Rattle.keeper.specs.declared.transcript.Call.TheVariants.{Open, Lock, Turn, Release, Close}
-use Rattle.calls.specs.Orders.{Pairs, flat, among, add_new, Place}
-use Rattle.calls.specs.States.{State, with_ledger, with_locks, lock_of, grant, judge, lock_call, turn_job, turn_call, release_turned, release_call, end_job, close_turned, close_call}
-use Rattle.keeper.specs.Runs.{open_answer, lock_answer, turn_answer, release_answer, close_answer, answered, leaving}
-use Rattle.keeper.specs.Serial.{Mark, opens, turns, marks, opened_by, turned_by, turned, asking}
-use Rattle.keeper.proofs.Listed.{zero_one, in_left, in_right, in_end, keep_in, keep_empty, in_keep, pairs_keep, pairs_end, flat_append, in_among, not_among, add_new_append, place_end, place_append, place_in}
-use Rattle.keeper.proofs.Finds.{same_job, no_job, find_fill, find_fill_keeps, find_turn, find_turn_keeps, find_clear, find_clear_keeps}
+use Rattle.calls.specs.Orders.{Pairs, flat, add_new, Place}
+use Rattle.calls.specs.States.{State, with_ledger, with_locks, lock_of, grant, turn_job, end_job}
+use Rattle.keeper.specs.Serial.{Mark, opens, turns, opened_by, turned_by, turned}
+use Rattle.keeper.proofs.Listed.{zero_one, in_end, keep_in, keep_empty, pairs_keep, pairs_end, flat_append, in_among, not_among, add_new_append, place_end, place_append, place_in}
+use Rattle.keeper.proofs.Finds.{find_fill, find_fill_keeps, find_turn, find_turn_keeps, find_clear, find_clear_keeps}
 
 -- one mark more
 turned_more : (m : List Mark) (x : Mark) → turned (m ++ (x ∷ [])) ≡ add_new (turned m) (turned_by x ++ [])

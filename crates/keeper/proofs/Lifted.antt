@@ -5,18 +5,17 @@ use Rattle.tables.specs.declared.entries.LockEntry.{LockEntry}
 use Rattle.tables.specs.declared.entries.Mode.{Mode}
 use Rattle.tables.specs.declared.entries.UndoEntry.{UndoEntry}
 use Rattle.tables.specs.declared.ledger.JobRecord.{JobRecord}
-use Rattle.tables.specs.declared.ledger.Ledger.{Ledger}
 use Rattle.tables.specs.declared.refusal.Refusal.{Refusal}
 use Rattle.tables.specs.declared.refusal.Refusal.TheVariants.{WrongBook, NumbersSpent, BookFull, NotYourLock}
 use Rattle.tables.specs.Lists.{keep, some_of}
-use Rattle.tables.specs.Locks.{conflicts, smallest_of, barred_of, is_lock, release_one}
-use Rattle.tables.specs.Jobs.{Reply, Outcome, Gives, refuse, give, check, on_found, not_turned, find, open_on}
+use Rattle.tables.specs.Locks.{conflicts, smallest_of, barred_of, is_lock}
+use Rattle.tables.specs.Jobs.{Reply, Outcome, Gives, check, on_found, not_turned, find, open_on}
 use Rattle.keeper.specs.declared.keeper.Keeper.{Keeper}
 use Rattle.calls.specs.declared.lock_answer.LockAnswer.{LockAnswer}
 use Rattle.keeper.specs.declared.transcript.Answer.{Answer}
 use Rattle.keeper.specs.declared.transcript.Call.{Call}
 use Rattle.keeper.specs.declared.transcript.Call.TheVariants.{Open, Lock, Turn, Release, Close}
-use Rattle.calls.specs.States.{State, with_ledger, with_locks, judge, grant, lock_call, turn_job, turn_call, release_turned, release_call, close_call}
+use Rattle.calls.specs.States.{State, judge, lock_call, turn_call, release_turned, release_call, close_call}
 use Rattle.keeper.specs.Fronts.{front, locks_front, log_front, same_counts, LocksSo, LogsSo, LeavesSo, lock_with, turn_with, release_with, close_with}
 use Rattle.keeper.specs.Runs.{open_answer, lock_answer, turn_answer, release_answer, close_answer, answered, leaving}
 use Rattle.keeper.specs.Ran.{Steps}

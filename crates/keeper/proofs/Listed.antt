@@ -1,7 +1,7 @@
 -- Lists: membership, pairs, what is kept, and the order of jobs.
-use Rattle.std.proofs.Common.{◌≡◌, ℕ, suc, Bool, true, false, cond, not, ◌||◌, ◌≢◌, ◌⊎◌, List, [], ◌∷◌, ◌++◌, length, sym, refl, ap, ◌∙◌, subst, inl, inr, true≢false, append_assoc, append-nil, arith}
+use Rattle.std.proofs.Common.{◌≡◌, ℕ, suc, Bool, true, false, cond, ◌||◌, ◌⊎◌, List, [], ◌∷◌, ◌++◌, length, sym, refl, ap, ◌∙◌, subst, inl, inr, append_assoc, arith}
 use mathlib.Core.Bool.{false≢true}
-use Rattle.tables.specs.Lists.{is, In, keep, some_of}
+use Rattle.tables.specs.Lists.{is, In, keep}
 use Rattle.tables.proofs.Lists.{not_true, both, is_self, is_means}
 use Rattle.calls.specs.Orders.{Pairs, flat, among, add_new, Place}
 

@@ -1,18 +1,16 @@
 -- Nobody waits on itself through others: along every wait the rank rises.
-use Rattle.std.proofs.Common.{◌≡◌, ℕ, ◌^◌, ◌<◌, Bool, true, false, not, ltb, leb, List, [], ◌∷◌, length, Some, None, Ok, Err, Option, sym, refl, ap, ◌∙◌, subst, arith}
+use Rattle.std.proofs.Common.{◌≡◌, ℕ, ◌<◌, Bool, true, false, not, ltb, leb, List, [], ◌∷◌, length, Some, None, Ok, Err, Option, sym, refl, ap, ◌∙◌, subst, arith}
 use Rattle.policies.specs.Ranks.{Ranked}
-use Rattle.tables.specs.declared.entries.LockEntry.{LockEntry}
 use Rattle.tables.specs.declared.entries.Mode.{Mode}
 use Rattle.tables.specs.declared.ledger.JobRecord.{JobRecord}
 use Rattle.tables.specs.declared.refusal.Refusal.TheVariants.{NumbersSpent, BookFull}
-use Rattle.tables.specs.Lists.{In, keep}
+use Rattle.tables.specs.Lists.{keep}
 use Rattle.tables.specs.Locks.{conflicts, barred, smallest_of, barred_of}
 use Rattle.tables.specs.Jobs.{Outcome, Reply, find}
 use Rattle.calls.specs.declared.lock_answer.LockAnswer.{LockAnswer}
-use Rattle.calls.specs.declared.lock_answer.LockAnswer.TheVariants.{Granted, Wait, Withdraw}
+use Rattle.calls.specs.declared.lock_answer.LockAnswer.TheVariants.{Wait}
 use Rattle.calls.specs.States.{State, judge, lock_call}
 use Rattle.keeper.specs.Serial.{Mark, Waits, Chain}
-use Rattle.tables.proofs.Lists.{not_true}
 use Rattle.keeper.proofs.Listed.{zero_one, in_keep, keep_empty}
 use Rattle.keeper.proofs.Finds.{same_job}
 use Rattle.keeper.proofs.Holding.{Holds, no_holder}

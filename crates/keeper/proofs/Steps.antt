@@ -1,20 +1,20 @@
 -- Every call keeps what runs keep true, whatever it answers.
-use Rattle.std.proofs.Common.{◌≡◌, ℕ, ◌≤◌, Bool, true, false, ltb, leb, List, [], ◌∷◌, ◌++◌, map, length, Some, None, Option, sym, refl, ap, ◌∙◌, subst}
+use Rattle.std.proofs.Common.{◌≡◌, ℕ, Bool, true, false, ltb, leb, List, [], ◌++◌, length, Some, None, Option, refl}
 use Rattle.std.proofs.lemmas.Bool.{leb-true}
 use Rattle.tables.specs.declared.entries.Mode.{Mode}
 use Rattle.tables.specs.declared.ledger.JobRecord.{JobRecord}
 use Rattle.tables.specs.declared.ledger.Ledger.{Ledger}
 use Rattle.tables.specs.declared.refusal.Refusal.{Refusal}
-use Rattle.tables.specs.declared.refusal.Refusal.TheVariants.{NoSuchJob, HasTurned, BadClass, NoPlace, NumbersSpent, BookFull, NotTurned, NotYourLock}
+use Rattle.tables.specs.declared.refusal.Refusal.TheVariants.{NoSuchJob, HasTurned, BadClass, NoPlace, NumbersSpent, BookFull, NotYourLock}
 use Rattle.tables.specs.Lists.{keep, some_of}
 use Rattle.tables.specs.Locks.{conflicts, smallest_of, barred_of, is_lock, release_one}
-use Rattle.tables.specs.Jobs.{Outcome, refuse, give, check, on_found, not_turned, find, is_free, open_ledger, open_on}
+use Rattle.tables.specs.Jobs.{Outcome, refuse, give, check, on_found, not_turned, find, is_free, open_ledger}
 use Rattle.calls.specs.declared.lock_answer.LockAnswer.{LockAnswer}
 use Rattle.keeper.specs.declared.transcript.Call.{Call}
 use Rattle.keeper.specs.declared.transcript.Call.TheVariants.{Open, Lock, Turn, Release, Close}
-use Rattle.calls.specs.States.{State, with_ledger, with_locks, judge, grant, turn_job, release_turned, end_job, close_turned}
-use Rattle.keeper.specs.Runs.{open_answer, lock_answer, turn_answer, release_answer, close_answer, answered, leaving}
-use Rattle.keeper.specs.Serial.{Mark, opens, turns, marks, turned}
+use Rattle.calls.specs.States.{State, with_ledger, with_locks, judge, turn_job, release_turned, close_turned}
+use Rattle.keeper.specs.Runs.{open_answer, turn_answer, close_answer, answered, leaving}
+use Rattle.keeper.specs.Serial.{Mark, marks}
 use Rattle.keeper.proofs.Holding.{Holds, idle, open_holds, grant_holds, release_holds, end_holds, again_holds, turn_holds}
 
 -- what holds of every way that a call's checks can go, holds of the call

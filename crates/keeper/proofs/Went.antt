@@ -1,5 +1,5 @@
 -- A run, call by call, and the law of the whole.
-use Rattle.std.proofs.Common.{◌≡◌, ℕ, zero, suc, ◌+◌, ◌<◌, ◌≤◌, Bool, true, false, ltb, leb, List, [], ◌∷◌, ◌++◌, map, length, get_or, take, set, replicate, Some, None, Ok, Err, Option, sym, refl, ap, ◌∙◌, subst, append_assoc, append-nil, arith, take_all}
+use Rattle.std.proofs.Common.{◌≡◌, ℕ, zero, suc, ◌+◌, ◌<◌, ◌≤◌, Bool, ltb, leb, List, [], ◌∷◌, ◌++◌, length, get_or, take, set, replicate, Some, None, Ok, Option, sym, refl, ap, ◌∙◌, subst, append_assoc, append-nil, arith, take_all}
 use lib.ListN.{length-map}
 use Rattle.std.proofs.lemmas.List.{take_more, take_more_set, map-set, set-get_or, get_or-map}
 use Rattle.policies.specs.Ranks.{Ranked}
@@ -8,23 +8,22 @@ use Rattle.tables.specs.declared.entries.Mode.{Mode}
 use Rattle.tables.specs.declared.entries.UndoEntry.{UndoEntry}
 use Rattle.tables.specs.declared.ledger.JobRecord.{JobRecord}
 use Rattle.tables.specs.declared.refusal.Refusal.TheVariants.{NumbersSpent, BookFull, NotYourLock}
-use Rattle.tables.specs.Lists.{In, keep, some_of}
-use Rattle.tables.specs.Locks.{conflicts, smallest_of, barred_of, is_lock, release_one}
-use Rattle.tables.specs.Jobs.{Outcome, give, find, fresh_ledger}
+use Rattle.tables.specs.Lists.{keep, some_of}
+use Rattle.tables.specs.Locks.{conflicts, smallest_of, barred_of, is_lock}
+use Rattle.tables.specs.Jobs.{Outcome, find}
 use Rattle.keeper.specs.declared.keeper.Keeper.{Keeper}
 use Rattle.calls.specs.declared.lock_answer.LockAnswer.{LockAnswer}
 use Rattle.keeper.specs.declared.transcript.Answer.{Answer}
 use Rattle.keeper.specs.declared.transcript.Call.{Call}
 use Rattle.keeper.specs.declared.transcript.Call.TheVariants.{Open, Lock, Turn, Release, Close}
 use Rattle.keeper.specs.declared.transcript.Entry.{Entry}
-use Rattle.calls.specs.Orders.{flat}
-use Rattle.calls.specs.States.{State, judge, turn_job, release_turned, close_turned, with_locks, lock_call, turn_call, release_call, close_call}
+use Rattle.calls.specs.States.{State, judge, release_turned, close_turned, lock_call, release_call, close_call}
 use Rattle.keeper.specs.Fronts.{front, Made}
 use Rattle.keeper.specs.Runs.{answered, leaving, answers, left_by, calls, told}
-use Rattle.keeper.specs.Serial.{Mark, marks, history, asking, OneAfterAnother}
-use Rattle.keeper.specs.Ran.{Fresh, Steps, Fitting, Went, Ran, Lawful, Allowed, new_state, BeganWell}
+use Rattle.keeper.specs.Serial.{Mark, marks, history, OneAfterAnother}
+use Rattle.keeper.specs.Ran.{Fresh, Steps, Fitting, Went, Lawful, new_state, BeganWell}
 use Rattle.keeper.proofs.Told.{same_state}
-use Rattle.keeper.proofs.Listed.{zero_one, pairs_keep}
+use Rattle.keeper.proofs.Listed.{pairs_keep}
 use Rattle.keeper.proofs.Finds.{no_job}
 use Rattle.keeper.proofs.Holding.{Holds}
 use Rattle.keeper.proofs.Steps.{by_check, by_found, by_asking, step_holds}

@@ -1,5 +1,5 @@
 -- Calls one after the other: what each answers, and what is held after it.
-use Rattle.std.specs.Prelude.{◌≡◌, ℕ, Bool, List, [], ◌∷◌, map, Some, Ok, Err, Option}
+use Rattle.std.specs.Prelude.{ℕ, Bool, List, [], ◌∷◌, map, Some, Ok, Err, Option}
 use Rattle.tables.specs.Jobs.{Reply}
 use Rattle.calls.specs.declared.lock_answer.LockAnswer.{LockAnswer}
 use Rattle.keeper.specs.declared.transcript.Answer.{Answer}

@@ -32,7 +32,7 @@ lines-preserved g c =
     let left = rest c.finish.new.cursor in
     let line = line_read n valid fault c.loop-j.words (rest c.lines.cursor) (rest c.loop-j.cursor) _ (words_end n c.loop-j.j c.loop-j.words (rest c.loop-j.cursor) _ inv.3 c.loop-j-test.false inv.2) told.read in
     let all = items_more n valid fault numbers count first i (vec_items c.lines.list) (rest c.lines.cursor) _ out.2 c.lines-test.true item left line in
-    let pushed = c.in_ok-push.ensures.items in
+    let pushed = c.in_ok-push-in-Ok-finish.ensures.items in
     (told.text ∙ inv.0 ∙ out.0, inv.1 ∙ out.1, all ∙ ap (λ xs. before (map numbers xs) (items n valid fault (count - (i + 1)) (first + (i + 1)) left)) (sym pushed))
 
 -- the fault that the loop was left with

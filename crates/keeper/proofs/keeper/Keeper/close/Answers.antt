@@ -27,8 +27,8 @@ returns g c =
       | in-None+in_ok-turn-in-None w ↦
           let k₁ = w.turn.new.self in
           let same = w.self-is in
-          let L = w.in_ok-turn.ensures in
-          let parts = turn_with_parts j k k₁ log w.turn.new.log w.in_ok-turn.turn c.in-Some.open c.if-log-self.false found w.in-None.is L in
+          let L = w.in_ok-turn-in-None.ensures in
+          let parts = turn_with_parts j k k₁ log w.turn.new.log w.in_ok-turn-in-None.turn c.in-Some.open c.if-log-self.false found w.in-None.is L in
           let logged = ap (λ (x : Keeper). x.logged) same in
           told (ap (λ (x : Keeper). x.held) same ∙ L.held) (ap (λ (x : Keeper). x.table) same ∙ ap (λ (x : State (Unit {0}) _). x.table) parts.1) (ap (λ (x : Keeper). x.log) same ∙ ap (λ (x : State (Unit {0}) _). x.log) parts.1) c.end.ensures refl refl refl c.drop_job-rest.ensures
           (turn_job j σ) refl refl refl (ap (λ (x : Keeper). x.jobs.ledger) same ∙ ap (λ (x : State (Unit {0}) _). x.ledger) parts.1)
