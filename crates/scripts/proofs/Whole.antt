@@ -1,10 +1,10 @@
 -- Whole texts: from the sections to what is accepted.
-use Rattle.std.proofs.Common.{◌≡◌, ℕ, suc, ◌+◌, ◌*◌, ◌<◌, ◌≤◌, Bool, true, false, cond, leb, List, [], ◌∷◌, ◌++◌, map, length, Ok, Err, vec_items, decimal, Result, sym, refl, ap, ◌∙◌, subst, append_assoc, append-nil, zero-le, suc-mul, arith, length-append}
+use Rattle.std.proofs.Common.{◌≡◌, ℕ, ◌+◌, ◌*◌, ◌<◌, ◌≤◌, Bool, true, false, cond, leb, List, [], ◌∷◌, ◌++◌, map, length, Ok, Err, vec_items, Result, sym, refl, ap, ◌∙◌, subst, append-nil, zero-le, suc-mul, arith, length-append}
 use denote.Struct.Record.{values_one}
 use lib.ListN.{length-map}
 use Rattle.std.specs.List.{AllByRecursion as All}
 use Rattle.std.proofs.lemmas.Fmt.{length-decimal-le}
-use Rattle.std.proofs.lemmas.Bool.{leb-true, le-leb, lt-leb}
+use Rattle.std.proofs.lemmas.Bool.{le-leb, lt-leb}
 use Rattle.std.proofs.lemmas.Bool.Decides.{nat_tests}
 use Rattle.rows.specs.declared.trip.Trip.{Trip}
 use Rattle.predicates.specs.declared.trip_box.TripBox.{TripBox}
@@ -27,7 +27,7 @@ use Rattle.scripts.specs.Boxes.{box_numbers, box_valid}
 use Rattle.scripts.specs.Writing.{spaced, written_lines, written_section, written}
 use Rattle.scripts.specs.Wholes.{section_numbers, WritingOf, Accepts}
 use Rattle.scripts.proofs.Decimal.{same_ok, not_both}
-use Rattle.scripts.proofs.Written.{both_steps, line_passed, Fit, Stands, section_writes, section_back}
+use Rattle.scripts.proofs.Written.{both_steps, Fit, Stands, section_writes, section_back}
 
 -- where a part stops, the whole stops with the same fault
 pub stopped : {A B : Type 0} (s : Result (A × List ℕ) Fault) (w : Result (B × List ℕ) Fault) (x : ReadError) → ((e : Fault) → s ≡ Err e → w ≡ Err e) → Stops s x → Stops w x

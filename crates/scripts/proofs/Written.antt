@@ -4,14 +4,13 @@ use Rattle.std.specs.List.{AllByRecursion as All}
 use Rattle.std.proofs.lemmas.Bool.{eqb-true, eq-eqb, leb-true, le-leb}
 use Rattle.scripts.specs.declared.fault.Cause.{Cause}
 use Rattle.scripts.specs.declared.fault.Cause.TheVariants.{Form, Number}
-use Rattle.scripts.specs.declared.fault.Fault.{Fault}
 use Rattle.scripts.specs.declared.read_error.ReadError.{ReadError}
 use Rattle.scripts.specs.Scans.{Scan, and_then, pass}
 use Rattle.scripts.specs.Numbers.{NoDigit, number, word}
 use Rattle.scripts.specs.Lines.{words, on_line, judged, line, items, Gives}
 use Rattle.scripts.specs.Sections.{counted, section}
 use Rattle.scripts.specs.Writing.{spaced, written_lines, written_section}
-use Rattle.scripts.proofs.Decimal.{same_ok, not_both, Writes, number_writes, number_back}
+use Rattle.scripts.proofs.Decimal.{same_ok, not_both, number_writes, number_back}
 
 -- where two steps went through, each did
 pub both_steps : {A B E : Type 0} (s : Result (A × List ℕ) E) (f : A → List ℕ → Result (B × List ℕ) E) (r : B × List ℕ) → and_then s f ≡ Ok r → (v : A × List ℕ) × (s ≡ Ok v) × (f v.0 v.1 ≡ Ok r)

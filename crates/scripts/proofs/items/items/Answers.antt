@@ -1,9 +1,9 @@
-use Rattle.std.proofs.Common.{◌≡◌, ℕ, ◌+◌, ◌-◌, [], ◌∷◌, ◌++◌, map, Some, None, Err, vec_items, Option, sym, refl, ap, ◌∙◌, subst, arith, length-set}
+use Rattle.std.proofs.Common.{◌≡◌, ℕ, ◌+◌, ◌-◌, [], map, Some, None, Err, vec_items, Option, sym, refl, ap, ◌∙◌, arith, length-set}
 use lib.ListN.{length-replicate}
 use Rattle.scripts.specs.declared.fault.Fault.{Fault}
 use Rattle.scripts.specs.Cursors.{rest}
 use Rattle.scripts.specs.Lines.{items}
-use Rattle.scripts.proofs.Steps.{before, words_begin, words_more, words_end, words_stop, line_read, line_stops, items_more, items_end, items_stop}
+use Rattle.scripts.proofs.Steps.{before, words_begin, words_more, words_end, words_stop, line_read, line_stops, items_more, items_stop}
 use Rattle.scripts.proofs.items.items.Goals as goal
 use Rattle.scripts.proofs.items.items.Goals.{else-lines-test, then-lines-test+then-loop-j-test+in-Err, then-lines-test+else-loop-j-test+in-Err-finish}
 

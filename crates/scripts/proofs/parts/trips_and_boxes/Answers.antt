@@ -1,4 +1,4 @@
-use Rattle.std.proofs.Common.{◌≡◌, ◌+◌, map, length, vec_items, sym, ◌∙◌}
+use Rattle.std.proofs.Common.{◌+◌, map, vec_items, sym, ◌∙◌}
 use lib.ListN.{length-map}
 use Rattle.std.proofs.lemmas.Result.{err_from_is_err_and}
 use Rattle.scripts.specs.declared.fault.Cause.TheVariants.{Predicate}

@@ -1,5 +1,5 @@
-use Rattle.std.proofs.Common.{◌≡◌, ◌-◌, length}
-use Rattle.scripts.specs.Numbers.{number, digits}
+use Rattle.std.proofs.Common.{◌≡◌, length}
+use Rattle.scripts.specs.Numbers.{digits}
 use Rattle.scripts.specs.Cursors.{rest}
 use Rattle.scripts.proofs.cursor.Cursor.number.Given as goal
 
