@@ -1,4 +1,6 @@
 // A report and an upload meet over one box: every call of the two jobs with what the keeper answers.
+#![tactic(auto)]
+
 use anyhow::anyhow;
 use keeper::running::begin;
 use keeper::transcript::{Call, Entry};

@@ -1,4 +1,6 @@
 // Mileage: for each box of a script, how many of its trips hold in it and how many metres they drove.
+#![tactic(auto)]
+
 mod figures;
 mod once;
 mod tally;

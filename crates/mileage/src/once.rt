@@ -6,7 +6,7 @@ use rows::row::Row;
 use std::alloc::{AllocError, Global};
 
 fn is_among<R: Row>(rows: &[R], row: &R) -> bool
-    ensures { result ≡ among order row.now rows.now }
+    ensures { result ≡ among R.order row.now rows.now }
 {
     for other in rows {
         if other.compare(row).is_eq() {
@@ -18,7 +18,7 @@ fn is_among<R: Row>(rows: &[R], row: &R) -> bool
 
 // The rows, each once, in the order in which they first come.
 pub(crate) fn each_once<R: Row>(heap: Global, rows: &[R]) -> Result<Vec<R>, AllocError>
-    ensures list { IfOk result (λ v. v.items ≡ gathered order [] rows.now) }
+    ensures list { IfOk result (λ v. v.items ≡ gathered R.order [] rows.now) }
     ensures once { IfOk result (λ v. EachOnce rows.now v.items) }
 {
     let mut seen = Vec::new(heap);

@@ -6,8 +6,8 @@ use rows::row::Row;
 
 pub(crate) fn tally<P: Predicate>(rows: &[P::Row], predicate: &P) -> (usize, u64)
     requires { length rows.now ≤ 512 }
-    ensures count { result.0 ≡ count_by (holds predicate.now) rows.now }
-    ensures sum { result.1 ≡ sum_by P.Row.Row.amount (filter (holds predicate.now) rows.now) }
+    ensures count { result.0 ≡ count_by (P.holds predicate.now) rows.now }
+    ensures sum { result.1 ≡ sum_by P.Row.Row.amount (filter (P.holds predicate.now) rows.now) }
 {
     let mut count = 0;
     let mut sum = 0;

@@ -1,4 +1,6 @@
 // A report and an upload meet over one box: every call of the two jobs with what the keeper answers.
+#![tactic(auto)]
+
 mod one_place;
 
 use anyhow::anyhow;

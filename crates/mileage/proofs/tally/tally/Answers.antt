@@ -1,4 +1,4 @@
-use Rattle.std.proofs.Common.{◌≡◌, true, false, get_or, sum_by, count_by, filter, sym, ap, ◌∙◌, arith, take_all}
+use Rattle.std.proofs.Common.{◌≡◌, true, false, sum_by, count_by, filter, sym, ap, ◌∙◌, arith, take_all}
 use Rattle.std.proofs.lemmas.List.Sums.{count_by_more_yes, count_by_more_no}
 use Rattle.mileage.proofs.Sums.{sum_more_yes, sum_more_no}
 use Rattle.mileage.proofs.tally.tally.Goals as goal
@@ -7,7 +7,7 @@ use Rattle.mileage.proofs.tally.tally.Goals.{then-holds, else-holds}
 pub loop-row-preserved : goal.loop-row-preserved
 loop-row-preserved g c =
     let p = g.P.Predicate.holds c.args.predicate.now in
-    let f = g.Row.Row.amount in
+    let f = g.P.Row.Row.amount in
     let xs = c.args.rows.now in
     let i = c.loop-row.row-index in
     let x = c.row-item.result in
@@ -30,4 +30,4 @@ pub returns : goal.returns
 returns g c =
     let p = g.P.Predicate.holds c.args.predicate.now in
     let whole = take_all _ _ c.loop-row-test.false in
-    record { count = c.loop-row.invariant.2 ∙ ap (count_by p) whole; sum = c.loop-row.invariant.3 ∙ ap (λ l. sum_by g.Row.Row.amount (filter p l)) whole }
+    record { count = c.loop-row.invariant.2 ∙ ap (count_by p) whole; sum = c.loop-row.invariant.3 ∙ ap (λ l. sum_by g.P.Row.Row.amount (filter p l)) whole }
