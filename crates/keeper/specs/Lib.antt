@@ -5,3 +5,5 @@ pub mod Runs
 pub mod Serial
 pub mod Ran
 pub mod Examples
+pub use Rattle.calls.specs.States
+pub use Rattle.calls.specs.Orders

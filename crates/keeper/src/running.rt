@@ -4,8 +4,8 @@ ghost use Rattle.keeper.specs.Runs.{open_answer, lock_answer, turn_answer, relea
 ghost use Rattle.keeper.specs.Ran.{Steps, Ran, Lawful, Began};
 
 use crate::keeper::Keeper;
+use crate::lock_answer::LockAnswer;
 use crate::transcript::{Answer, Call, Entry};
-use calls::lock_answer::LockAnswer;
 use policies::wait_policy::WaitPolicy;
 use predicates::predicate::Predicate;
 use tables::entries::{LockEntry, UndoEntry};

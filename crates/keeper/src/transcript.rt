@@ -2,7 +2,7 @@
 ghost use Rattle.std.specs.Prelude.{Some as SomeOf};
 ghost use Rattle.keeper.specs.Shown.{answer_text};
 
-use calls::lock_answer::LockAnswer;
+use crate::lock_answer::LockAnswer;
 use std::fmt;
 use tables::entries::Mode;
 use tables::refusal::Refusal;

@@ -1,4 +1,4 @@
--- Strict orders, built as a derive builds them: field by field and variant by variant. Assumes nothing.
+-- Strict orders, built as a derive builds them: field by field. Assumes nothing.
 use Rattle.std.specs.Prelude.{◌≡◌}
 use Rattle.std.specs.declared.cmp.Ordering.{Ordering}
 use Rattle.std.specs.Ordering.{nat_cmp, ordering_then}

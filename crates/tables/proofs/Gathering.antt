@@ -22,6 +22,16 @@ module _ {P : Type 0} (allows : ℕ → ℕ → ℕ → ℕ → Bool) (c j : ℕ
         go true = refl
         go false = refl
 
+    -- a conflicting entry is noted
+    pub gather_taken : (e : LockEntry P) (h g : Holders) → i < length xs → e ≡ get_or xs i e → test e ≡ true → h ≡ noting allows c j f e
+        → gathered allows c j f (keep test (drop i xs)) ≡ g → gathered allows c j h (keep test (drop (i + 1) xs)) ≡ g
+    gather_taken e h g within read q n so = ap (λ (h : Holders). gathered allows c j h (keep test (drop (i + 1) xs))) n ∙ gather_step e true within read q ∙ so
+
+    -- any other is passed over
+    pub gather_left : (e : LockEntry P) (h g : Holders) → i < length xs → e ≡ get_or xs i e → test e ≡ false → h ≡ f
+        → gathered allows c j f (keep test (drop i xs)) ≡ g → gathered allows c j h (keep test (drop (i + 1) xs)) ≡ g
+    gather_left e h g within read q n so = ap (λ (h : Holders). gathered allows c j h (keep test (drop (i + 1) xs))) n ∙ gather_step e false within read q ∙ so
+
     pub gather_all : length xs ≤ i → gathered allows c j f (keep test (drop i xs)) ≡ f
     gather_all h = at_drop_all (λ ys. gathered allows c j f (keep test ys)) xs i h
 

@@ -4,7 +4,7 @@ use Rattle.std.proofs.lemmas.List.{take_more}
 use Rattle.tables.specs.declared.entries.LockEntry.{LockEntry}
 use Rattle.tables.specs.Lists.{some_of}
 use Rattle.tables.specs.Locks.{is_lock, release_one}
-use Rattle.tables.specs.Lent.{Found_at}
+use Rattle.tables.specs.Lent.{FoundAt}
 use Rattle.tables.proofs.Steps.{at_read}
 
 module _ {P : Type 0} (j n : ℕ) (ls : List (LockEntry P)) (i : ℕ) (e : LockEntry P) (within : i < length ls) (read : e ≡ get_or ls i e) where
@@ -14,7 +14,7 @@ module _ {P : Type 0} (j n : ℕ) (ls : List (LockEntry P)) (i : ℕ) (e : LockE
   without_at : (b : Bool) → b ≡ is_lock j n e → release_one j n (drop i ls) ≡ cond b (drop (i + 1) ls) (e ∷ release_one j n (drop (i + 1) ls))
   without_at b q = at_read (release_one j n) ls i e within read ∙ ap (λ (b : Bool). cond b (drop (i + 1) ls) (e ∷ release_one j n (drop (i + 1) ls))) (sym q)
 
-  pub lock_here : some_of (is_lock j n) (drop i ls) ≡ some_of (is_lock j n) ls → release_one j n ls ≡ take i ls ++ release_one j n (drop i ls) → true ≡ is_lock j n e → Found_at j n ls i
+  pub lock_here : some_of (is_lock j n) (drop i ls) ≡ some_of (is_lock j n) ls → release_one j n ls ≡ take i ls ++ release_one j n (drop i ls) → true ≡ is_lock j n e → FoundAt j n ls i
   lock_here s r q = record {
     within = within;
     there = sym s ∙ some_at true q;

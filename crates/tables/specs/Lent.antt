@@ -18,14 +18,14 @@ module _ {E : Type 0} (owner : E → ℕ) where
 
 module _ {P : Type 0} where
   -- the place of the job's first lock of that number
-  pub record Found_at (j n : ℕ) (ls : List (LockEntry P)) (i : ℕ) : Type 0 where
+  pub record FoundAt (j n : ℕ) (ls : List (LockEntry P)) (i : ℕ) : Type 0 where
     pub within : i < length ls
     pub there : some_of (is_lock j n) ls ≡ true
     pub without : release_one j n ls ≡ take i ls ++ drop (i + 1) ls
 
   abbrev pub Found : ℕ → ℕ → List (LockEntry P) → Option ℕ → Type 0
   Found j n ls None = some_of (is_lock j n) ls ≡ false
-  Found j n ls (Some i) = Found_at j n ls i
+  Found j n ls (Some i) = FoundAt j n ls i
 
   -- whether there was such a lock; the list without it is in front
   pub record Released (j n : ℕ) (ls : List (LockEntry P)) (r : Bool) (after : List (LockEntry P)) : Type 0 where

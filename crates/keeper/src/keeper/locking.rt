@@ -3,7 +3,7 @@ ghost use Rattle.std.specs.Prelude.{◌≡◌};
 ghost use Rattle.keeper.specs.Fronts.{LocksSo, held_of, lock_with};
 
 use crate::keeper::Keeper;
-use calls::lock_answer::LockAnswer;
+use crate::lock_answer::LockAnswer;
 use policies::wait_policy::WaitPolicy;
 use predicates::predicate::Predicate;
 use tables::entries::{LockEntry, Mode};
