@@ -1,5 +1,5 @@
 -- What holds of every way that a call's checks can go holds of the call.
-use Rattle.std.proofs.Common.{◌≡◌, ℕ, Bool, true, false, not, ltb, leb, List, [], ◌∷◌, length, Some, None, Option, sym, refl, ap, subst}
+use Rattle.std.proofs.Common.{◌≡◌, ℕ, Bool, true, false, ltb, leb, List, [], ◌∷◌, length, Some, None, Option, refl, arith}
 use Rattle.tables.specs.declared.entries.LockEntry.{LockEntry}
 use Rattle.tables.specs.declared.entries.Mode.{Mode}
 use Rattle.tables.specs.declared.ledger.JobRecord.{JobRecord}
@@ -11,7 +11,7 @@ use Rattle.tables.specs.Jobs.{Outcome, refuse, give, check, on_found, not_turned
 use Rattle.calls.specs.declared.lock_answer.LockAnswer.{LockAnswer}
 use Rattle.calls.specs.declared.lock_answer.LockAnswer.TheVariants.{Granted, Wait, Withdraw}
 use Rattle.calls.specs.States.{State, grant, judge, lock_call}
-use Rattle.calls.proofs.Listed.{zero_one, in_keep}
+use Rattle.calls.proofs.Listed.{in_keep}
 use Rattle.calls.proofs.Books.{find_in}
 
 module _ {S A : Type 0} (Q : Outcome S A → Type 0) (σ : S) where
@@ -29,9 +29,7 @@ module _ {S A : Type 0} (Q : Outcome S A → Type 0) (σ : S) where
 
   -- the job is open, with some class and turn
   pub by_open : (j : ℕ) (ss : List (Option JobRecord)) (f : JobRecord → Outcome S A) → Q (refuse NoSuchJob σ) → ((c : ℕ) (t : Option ℕ) → In (Some (job_of j c t)) ss → Q (f (job_of j c t))) → Q (on_found (find j ss) σ f)
-  by_open j ss f no_way way = by_found (find j ss) f no_way (λ b e.
-      let k = find_in j ss b e in
-      (subst (λ (i : ℕ). In (Some (job_of i b.class b.turn)) ss → Q (f (job_of i b.class b.turn))) (sym k.1) (way b.class b.turn)) k.0)
+  by_open j ss f no_way way = by_found (find j ss) f no_way (λ b e. let k = find_in j ss b e in let w = rw (← k.1) at way in w b.class b.turn k.0)
 
   -- the job is open and has not turned
   pub by_asker : (j : ℕ) (ss : List (Option JobRecord)) (f : JobRecord → Outcome S A) → ((n : Refusal) → Q (refuse n σ)) → ((c : ℕ) → In (Some (job_of j c None)) ss → Q (f (job_of j c None))) → Q (on_found (find j ss) σ (λ b. not_turned b.turn σ (f b)))
@@ -43,7 +41,7 @@ module _ {S A : Type 0} (Q : Outcome S A → Type 0) (σ : S) where
 
 no_holder : {P : Type 0} (ls : List (LockEntry P)) → smallest_of ls ≡ None → ls ≡ []
 no_holder [] e = refl
-no_holder (l ∷ ls) e = let z : ◌≡◌ {A = ℕ} 0 1 = cc in absurd (zero_one z)
+no_holder (l ∷ ls) e = absurd (grind arith)
 
 module _ {P R : Type 0} (apart : P → P → Bool) (allows : ℕ → ℕ → ℕ → ℕ → Bool) where
   -- LOCK: refused, granted, told to wait where the policy allows it for every conflict, or told to withdraw
@@ -62,11 +60,8 @@ module _ {P R : Type 0} (apart : P → P → Bool) (allows : ℕ → ℕ → ℕ
       hit : (l : LockEntry P) → In l σ.locks → conflicts apart j w p l ≡ true → In l hits
       hit l i h = in_keep l (conflicts apart j w p) σ.locks i h
 
-      allowed : (c : ℕ) → keep (barred allows c j) hits ≡ [] → (k : LockEntry P) → In k hits → (b : Bool) → allows c j k.class k.job ≡ b → allows c j k.class k.job ≡ true
-      allowed c q k i true r = r
-      allowed c q k i false r = absurd (subst (In k) q (in_keep k (barred allows c j) hits i (ap not r)))
-
       judged : (c : ℕ) → In (Some (job_of j c None)) σ.ledger.records → (any bar : Option ℕ) → smallest_of hits ≡ any → barred_of allows c j hits ≡ bar → Q (judge j c w p any bar σ)
-      judged c m None bar e q = granted c m (λ l i h. subst (In l) (no_holder hits e) (hit l i h))
-      judged c m (Some h) None e q = waits c m (λ l i k. allowed c (no_holder (keep (barred allows c j) hits) q) l (hit l i k) (allows c j l.class l.job) refl) h
+      judged c m None bar e q = granted c m (λ l i h. let n = no_holder hits e in let k = hit l i h in grind arith)
+      judged c m (Some h) None e q =
+          waits c m (λ l i k. let n = no_holder (keep (barred allows c j) hits) q in let b = in_keep l (barred allows c j) hits (hit l i k) in grind arith) h
       judged c m (Some h) (Some b) e q = leaves b

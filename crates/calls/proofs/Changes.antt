@@ -1,6 +1,6 @@
 -- Alterations of a set: what they make of each row, of its size, and that they can be undone.
-use Rattle.std.proofs.Common.{◌≡◌, ℕ, ◌+◌, ◌<◌, ◌≤◌, Bool, true, false, not, ◌&&◌, ◌||◌, List, [], ◌∷◌, ◌++◌, length, sym, refl, ap, ◌∙◌, subst, arith}
-use Rattle.std.proofs.lemmas.Bool.{ne_eqb}
+use Rattle.std.proofs.Common.{◌≡◌, ℕ, ◌+◌, ◌<◌, ◌≤◌, Bool, true, false, not, ◌&&◌, ◌||◌, List, [], ◌∷◌, ◌++◌, ◌&&◌, inl, inr, length, sym, refl, ap, ◌∙◌, arith}
+use Rattle.std.proofs.lemmas.Bool.{cases_Bool, ne_eqb}
 use Rattle.stores.specs.Sets.{ascends, insert, delete}
 use Rattle.stores.specs.Stores.{put_rows}
 use Rattle.stores.proofs.Sets.{equal_self, member_insert, member_delete, ascends_insert, ascends_delete, size_insert, size_delete, delete_inserted, insert_deleted}
@@ -9,7 +9,6 @@ use Rattle.tables.specs.declared.entries.Alteration.TheVariants.{Added, Removed,
 use Rattle.tables.specs.Undo.{reversed, removal, carried_out, undone}
 use Rattle.tables.specs.Coverage.{rows_of}
 use Rattle.tables.specs.Lists.{some_of}
-use Rattle.calls.specs.declared.data.DataAnswer.{DataAnswer}
 use Rattle.calls.specs.declared.data.DataCall.{DataCall}
 use Rattle.calls.specs.declared.data.DataCall.TheVariants.{Total, Next, Add, Drop, Change}
 use Rattle.calls.specs.Kinds.{Kinds}
@@ -17,7 +16,6 @@ use Rattle.calls.specs.Orders.{flat}
 use Rattle.calls.specs.Plain.{Done, has, equal, found, effect, apply, apply_all, after, touches, Replays}
 use Rattle.calls.specs.Systems.{carried_all}
 use Rattle.calls.proofs.Laws.{Laws}
-use Rattle.calls.proofs.Listed.{or_false}
 
 -- 1 for a row that was put in
 abbrev pub addition : {R : Type 0} → Alteration R → ℕ
@@ -65,18 +63,12 @@ module _ {P R : Type 0} (K : Kinds P R) (L : Laws K) where
   member_apply (Changed o n) r x g = rw (member_insert L.strict r n (delete K.order o x), member_delete L.strict r o x g)
 
   point_outside : (a : Alteration R) (r : R) (b : Bool) → some_of (equal K r) (rows_of a) ≡ false → point a r b ≡ b
-  point_outside (Added s) r b h = rw (or_false (equal K r s) false h).0
-  point_outside (Removed s) r b h = rw (or_false (equal K r s) false h).0
-  point_outside (Changed o n) r b h = let k = or_false (equal K r o) (equal K r n || false) h in rw (k.0, (or_false (equal K r n) false k.1).0)
+  point_outside (Added s) r b h = grind arith
+  point_outside (Removed s) r b h = grind arith
+  point_outside (Changed o n) r b h = grind arith
 
   gone : (o n : R) (x : List R) → Sorted x → has K x n ≡ false → has K (delete K.order o x) n ≡ false
-  gone o n x g h = member_delete L.strict n o x g ∙ rw h (elim (equal K n o) as (λ b. (not b && false) ≡ false) [ true ↦ refl | false ↦ refl ])
-
-  away : (o : R) (x : List R) → Sorted x → has K (delete K.order o x) o ≡ false
-  away o x g = member_delete L.strict o o x g ∙ rw (equal_self L.strict o)
-
-  there : (o : R) (x : List R) → has K (insert K.order o x) o ≡ true
-  there o x = member_insert L.strict o o x ∙ rw (equal_self L.strict o)
+  gone o n x g h = let m = member_delete L.strict n o x g in grind arith
 
   size_apply : (a : Alteration R) (x : List R) → Sorted x → Valid a x → length (apply K a x) + removal a ≡ length x + addition a
   size_apply (Added r) x g v = omega (arith, size_insert L.strict r x v)
@@ -85,7 +77,7 @@ module _ {P R : Type 0} (K : Kinds P R) (L : Laws K) where
 
   -- a store with a place left takes the row
   put_fits : (places : ℕ) (r : R) (x : List R) → has K x r ≡ false → length x < places → put_rows K.order r x places ≡ insert K.order r x
-  put_fits places r x h l = let n : length x ≡ places → ⊥ = λ e. omega arith in rw (h, ne_eqb (length x) places n)
+  put_fits places r x h l = rw (h, ne_eqb (length x) places (λ e. omega arith))
 
   -- what the store makes of an alteration that it is fit for is what it is
   carried : (places : ℕ) (a : Alteration R) (x : List R) → Sorted x → Valid a x → length x + addition a ≤ places → carried_out K.order places a x ≡ apply K a x
@@ -93,56 +85,41 @@ module _ {P R : Type 0} (K : Kinds P R) (L : Laws K) where
   carried places (Removed r) x g v h = refl
   carried places (Changed o n) x g v h = put_fits places n (delete K.order o x) (gone o n x g v.1) (omega (arith, size_delete L.strict o x v.0 g))
 
+  put_back : (places : ℕ) (o : R) (x : List R) → Sorted x → has K x o ≡ true → length (delete K.order o x) < places → put_rows K.order o (delete K.order o x) places ≡ x
+  put_back places o x g v l =
+      let m = member_delete L.strict o o x g in
+      let s = equal_self L.strict o in
+      put_fits places o (delete K.order o x) (grind arith) l ∙ insert_deleted L.strict o x v g
+
   pub taken_back : (places : ℕ) (a : Alteration R) (x : List R) → Sorted x → Valid a x → length (apply K a x) + removal a ≤ places → carried_out K.order places (reversed a) (apply K a x) ≡ x
   taken_back places (Added r) x g v h = delete_inserted L.strict r x v g
-  taken_back places (Removed r) x g v h = put_fits places r (delete K.order r x) (away r x g) (omega arith) ∙ insert_deleted L.strict r x (v) g
+  taken_back places (Removed r) x g v h = put_back places r x g v (omega arith)
   taken_back places (Changed o n) x g v h =
       let k = gone o n x g v.1 in
-      let d : delete K.order n (insert K.order n (delete K.order o x)) ≡ delete K.order o x = delete_inserted L.strict n (delete K.order o x) k (ascends_delete L.strict o x g) in
-      ap (λ (y : List R). put_rows K.order o y places) d
-      ∙ put_fits places o (delete K.order o x) (away o x g) (omega (arith, size_insert L.strict n (delete K.order o x) k))
-      ∙ insert_deleted L.strict o x v.0 g
+      rw (delete_inserted L.strict n (delete K.order o x) k (ascends_delete L.strict o x g)) (put_back places o x g v.0 (omega (arith, size_insert L.strict n (delete K.order o x) k)))
 
   -- a data call makes no alteration, or one that the set is fit for, of rows that the call touches
   pub data Effect (d : DataCall P R) (x : List R) : Type 0 where
     idle : effect K d (found K d x) ≡ [] → Effect d x
     real : (a : Alteration R) → effect K d (found K d x) ≡ a ∷ [] → Valid a x → ((r : R) → touches K d r ≡ false → some_of (equal K r) (rows_of a) ≡ false) → Effect d x
 
-  one : (b : Bool) → b ≡ false → (b || false) ≡ false
-  one true e = e
-  one false e = refl
-
-  two : (b c : Bool) → (b || c) ≡ false → (b || (c || false)) ≡ false
-  two true c e = e
-  two false c e = one c e
-
   pub effect_of : (d : DataCall P R) (x : List R) → Effect d x
   effect_of (Total p) x = idle refl
   effect_of (Next p given) x = idle refl
-  effect_of (Add r) x = (elim (has K x r) as (λ b. has K x r ≡ b → Effect (Add r) x) [ true ↦ λ e. idle (rw e) | false ↦ λ e. real (Added r) (rw e) e (λ s h. one (equal K s r) h) ]) refl
-  effect_of (Drop r) x = (elim (has K x r) as (λ b. has K x r ≡ b → Effect (Drop r) x) [ true ↦ λ e. real (Removed r) (rw e) e (λ s h. one (equal K s r) h) | false ↦ λ e. idle (rw e) ]) refl
-  effect_of (Change o n) x = go (has K x o) (equal K o n) (has K x n) refl refl refl
-    where
-      go : (b c m : Bool) → has K x o ≡ b → equal K o n ≡ c → has K x n ≡ m → Effect (Change o n) x
-      go false c m p q e = idle (rw p)
-      go true true m p q e = idle (rw (p, q))
-      go true false true p q e = idle (rw (p, q, e))
-      go true false false p q e = real (Changed o n) (rw (p, q, e)) (p, e) (λ s h. two (equal K s o) (equal K s n) h)
+  effect_of (Add r) x = elim (cases_Bool (has K x r)) [ inl e ↦ idle (rw e) | inr e ↦ real (Added r) (rw e) e (λ s h. grind arith) ]
+  effect_of (Drop r) x = elim (cases_Bool (has K x r)) [ inl e ↦ real (Removed r) (rw e) e (λ s h. grind arith) | inr e ↦ idle (rw e) ]
+  effect_of (Change o n) x = elim (cases_Bool (has K x o && (not (equal K o n) && not (has K x n)))) [
+    | inl e ↦ real (Changed o n) (grind arith) (grind arith, grind arith) (λ s h. grind arith)
+    | inr e ↦ idle (grind arith)
+  ]
 
   pub sorted_after : (d : DataCall P R) (x : List R) → Sorted x → Sorted (after K d x)
   sorted_after d x g = elim (effect_of d x) [ idle e ↦ rw e g | real a e v t ↦ rw e (sorted_apply a x g) ]
 
-  abbrev point_all : List (Alteration R) → R → Bool → Bool
-  point_all [] r b = b
-  point_all (a ∷ rest) r b = point_all rest r (point a r b)
-
-  pub member_after : (made : List (Alteration R)) (r : R) (x : List R) → Sorted x → has K (apply_all K made x) r ≡ point_all made r (has K x r)
-  member_after [] r x g = refl
-  member_after (a ∷ rest) r x g = member_after rest r (apply K a x) (sorted_apply a x g) ∙ ap (point_all rest r) (member_apply a r x g)
-
   -- two sets that agree on a row agree on it after the same alterations
   pub same_at : (made : List (Alteration R)) (r : R) (x y : List R) → Sorted x → Sorted y → has K x r ≡ has K y r → has K (apply_all K made x) r ≡ has K (apply_all K made y) r
-  same_at made r x y g k e = member_after made r x g ∙ ap (point_all made r) e ∙ sym (member_after made r y k)
+  same_at [] r x y g k e = e
+  same_at (a ∷ rest) r x y g k e = same_at rest r _ (apply K a y) (sorted_apply a x g) (sorted_apply a y k) (member_apply a r x g ∙ ap (point a r) e ∙ sym (member_apply a r y k))
 
   -- a row that the call does not touch is as before
   pub outside : (d : DataCall P R) (r : R) (x : List R) → Sorted x → touches K d r ≡ false → has K (after K d x) r ≡ has K x r
@@ -160,7 +137,7 @@ module _ {P R : Type 0} (K : Kinds P R) (L : Laws K) where
 
   undo_append : (places : ℕ) (xs ys : List (Alteration R)) (x : List R) → undone K.order places (xs ++ ys) x ≡ undone K.order places xs (undone K.order places ys x)
   undo_append places [] ys x = refl
-  undo_append places (a ∷ xs) ys x = ap (carried_out K.order places (reversed a)) (undo_append places xs ys x)
+  undo_append places (a ∷ xs) ys x = rw (undo_append places xs ys x)
 
   -- what calls altered, by their answers
   abbrev pub alterations_in : List (Done P R) → List (Alteration R)
@@ -171,16 +148,18 @@ module _ {P R : Type 0} (K : Kinds P R) (L : Laws K) where
   replay_size [] z x g r = rw r (omega arith)
   replay_size (c ∷ C) z x g r =
       let ih = replay_size C (after K c.call z) x (sorted_after c.call z g) r.1 in
-      let up = subst (λ (f : DataAnswer R). length (after K c.call z) + removes (effect K c.call f) ≡ length z + adds (effect K c.call f)) r.0 (size_after c.call z g) in
-      omega (arith, removes_append (effect K c.call c.answer) (alterations_in C))
+      let q = r.0 in
+      let up = size_after c.call z g in
+      grind (arith, removes_append)
 
   -- undoing what the calls altered undoes the calls
   pub undo_all : (places : ℕ) (C : List (Done P R)) (z x : List R) → Sorted z → Replays K z C x → length x + removes (alterations_in C) ≤ places → undone K.order places (alterations_in C) x ≡ z
   undo_all places [] z x g r h = sym r
   undo_all places (c ∷ C) z x g r h =
+      let q = r.0 in
       let ra = removes_append (effect K c.call c.answer) (alterations_in C) in
       let sz = replay_size C (after K c.call z) x (sorted_after c.call z g) r.1 in
-      undo_append places (effect K c.call c.answer) (alterations_in C) x
-      ∙ ap (undone K.order places (effect K c.call c.answer)) (undo_all places C (after K c.call z) x (sorted_after c.call z g) r.1 (omega arith))
-      ∙ subst (λ (f : DataAnswer R). undone K.order places (effect K c.call f) (after K c.call z) ≡ z) r.0
-      (undo_call places c.call z g (subst (λ (f : DataAnswer R). length (after K c.call z) + removes (effect K c.call f) ≤ places) (sym r.0) (omega arith)))
+      let others = undo_all places C (after K c.call z) x (sorted_after c.call z g) r.1 (omega arith) in
+      let this = undo_call places c.call z g (grind arith) in
+      let both = undo_append places (effect K c.call c.answer) (alterations_in C) x in
+      grind arith

@@ -1,5 +1,5 @@
 -- Nobody waits on itself through others: along every wait the rank rises.
-use Rattle.std.proofs.Common.{◌≡◌, ℕ, ◌^◌, ◌<◌, Bool, List, [], ◌∷◌, None, Ok, sym, ap, ◌∙◌, subst, inl, inr, arith}
+use Rattle.std.proofs.Common.{◌≡◌, ℕ, ◌^◌, ◌<◌, Bool, List, [], ◌∷◌, None, Ok, subst, arith}
 use Rattle.policies.specs.Ranks.{Ranked}
 use Rattle.tables.specs.Lists.{In}
 use Rattle.tables.specs.Jobs.{job_of}
@@ -10,21 +10,16 @@ use Rattle.calls.specs.Plain.{Done}
 use Rattle.calls.specs.Serial.{Waits, Chain}
 use Rattle.calls.specs.Systems.{System}
 use Rattle.calls.proofs.Laws.{Laws}
-use Rattle.calls.proofs.Listed.{zero_one}
-use Rattle.calls.proofs.Changes.{Sorted}
 use Rattle.calls.proofs.Invariant.{Inv}
 use Rattle.calls.proofs.Cases.{by_lock}
 
 -- a job has one class
 one_class : (os : List (ℕ × ℕ)) → Pairs (λ o p. o.0 < p.0) os → (k c d : ℕ) → In (k, c) os → In (k, d) os → c ≡ d
 one_class [] h k c d m n = absurd m
-one_class (o ∷ os) h k c d (inl e) (inl f) = ap (λ (o : ℕ × ℕ). o.1) (e ∙ sym f)
-one_class (o ∷ os) h k c d (inl e) (inr n) = let l = h.0 (k, d) n in let q = ap (λ (o : ℕ × ℕ). o.0) e in absurd (omega arith)
-one_class (o ∷ os) h k c d (inr m) (inl f) = let l = h.0 (k, c) m in let q = ap (λ (o : ℕ × ℕ). o.0) f in absurd (omega arith)
-one_class (o ∷ os) h k c d (inr m) (inr n) = one_class os h.1 k c d m n
+one_class (o ∷ os) h k c d m n = let ih = one_class os h.1 k c d in let p = h.0 (k, d) in let q = h.0 (k, c) in grind arith
 
-module _ {P R : Type 0} (K : Kinds P R) (L : Laws K) (allows : ℕ → ℕ → ℕ → ℕ → Bool) (rank : ℕ → ℕ → ℕ) (ranked : Ranked allows rank) (x₀ : List R) (sorted : Sorted K L x₀)
-    (os : List (ℕ × ℕ)) (ts ws : List ℕ) (C : List (Done P R)) (ω : System P R) (I : Inv K L x₀ sorted os ts ws C ω) where
+module _ (allows : ℕ → ℕ → ℕ → ℕ → Bool) (rank : ℕ → ℕ → ℕ) (ranked : Ranked allows rank) {P R : Type 0} {K : Kinds P R} {L : Laws K} {x₀ : List R}
+    {os : List (ℕ × ℕ)} {ts ws : List ℕ} {C : List (Done P R)} {ω : System P R} (I : Inv K L x₀ os ts ws C ω) where
   -- both were opened, and the first has the smaller rank
   Above : ℕ → ℕ → Type 0
   Above j k = (c d : ℕ) × In (j, c) os × In (k, d) os × (rank c j < rank d k)
@@ -37,12 +32,12 @@ module _ {P R : Type 0} (K : Kinds P R) (L : Laws K) (allows : ℕ → ℕ → �
   above j k w =
       let l = w.lock in
       by_lock K.apart allows (λ o. o.reply ≡ Ok (Wait w.holder) → Above j k) j w.mode w.predicate ω.state
-      (λ n e. let z : ◌≡◌ {A = ℕ} 0 1 = cc in absurd (zero_one z)) (λ c i h e. let z : ◌≡◌ {A = ℕ} 0 1 = cc in absurd (zero_one z))
+      (λ n e. grind arith) (λ c i h e. grind arith)
       (λ c i h n e.
       let asker = (I.open_jobs (job_of j c None) i).0 in
       let holder = I.lock_opened l w.held in
       subst (λ (k : ℕ). Above j k) w.owned (c, l.class, asker, holder, ranked c j l.class l.job (fits j c asker) (fits l.job l.class holder) (h l w.held w.conflict)))
-      (λ n e. let z : ◌≡◌ {A = ℕ} 0 1 = cc in absurd (zero_one z)) w.answer
+      (λ n e. grind arith) w.answer
 
   chain : (j k : ℕ) (through : List ℕ) → Chain K allows ω.state j through k → Above j k
   unfolding Above

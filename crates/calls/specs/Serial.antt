@@ -1,13 +1,14 @@
 -- One after another: what every run of a fresh keeper amounts to, in terms of its transcript.
-use Rattle.std.specs.Prelude.{◌≡◌, ℕ, ◌<◌, Bool, true, not, ◌≢◌, List, [], ◌∷◌, ◌++◌, map, Some, None, Ok, Option}
+use Rattle.std.specs.Prelude.{◌≡◌, ℕ, ◌<◌, Bool, true, not, ◌≢◌, List, [], ◌∷◌, ◌++◌, map, Some, None, Ok, Err, Option}
 use Rattle.tables.specs.declared.entries.LockEntry.{LockEntry}
 use Rattle.tables.specs.declared.entries.Mode.{Mode}
 use Rattle.tables.specs.Lists.{is, In, keep}
+use Rattle.tables.specs.Jobs.{Reply}
 use Rattle.tables.specs.Locks.{conflicts}
 use Rattle.calls.specs.declared.data.DataAnswer.{DataAnswer}
 use Rattle.calls.specs.declared.lock_answer.LockAnswer.TheVariants.{Wait}
 use Rattle.calls.specs.declared.transcript.Answer.{Answer}
-use Rattle.calls.specs.declared.transcript.Answer.TheVariants.{Refused, Job, Lock as Locked, Turned, Released, Closed, Withdrawn, Data as Answered}
+use Rattle.calls.specs.declared.transcript.Answer.TheVariants.{Job, Lock as Locked, Turned, Released, Closed, Withdrawn, Data as Answered}
 use Rattle.calls.specs.declared.transcript.Call.{Call}
 use Rattle.calls.specs.declared.transcript.Call.TheVariants.{Open, Lock, Turn, Release, Close, Withdraw, Data}
 use Rattle.calls.specs.declared.transcript.Entry.{Entry}
@@ -23,64 +24,62 @@ pub data Mark (P R : Type 0) : Type 0 where
   withdraws : (j : ℕ) → Mark P R
   does : Done P R → Mark P R
 
--- the number of the job that an answer gives
+-- what f makes of the answer of an accepted call, and nothing of a call that was refused or is still to be made
+abbrev pub of_accepted : {A B : Type 0} → (A → List B) → Option (Reply A) → List B
+of_accepted f None = []
+of_accepted f (Some (Err e)) = []
+of_accepted f (Some (Ok a)) = f a
+
 module _ {R : Type 0} where
-  abbrev pub job_given : Option (Answer R) → List ℕ
-  job_given None = []
-  job_given (Some (Refused r)) = []
-  job_given (Some (Job j)) = j ∷ []
-  job_given (Some (Locked a)) = []
-  job_given (Some (Turned n)) = []
-  job_given (Some Released) = []
-  job_given (Some (Closed n k)) = []
-  job_given (Some (Withdrawn k n)) = []
-  job_given (Some (Answered a)) = []
+  -- the number of the job that an answer gives
+  abbrev pub job_given : Answer R → List ℕ
+  job_given (Job j) = j ∷ []
+  job_given (Locked a) = []
+  job_given (Turned n) = []
+  job_given Released = []
+  job_given (Closed n k) = []
+  job_given (Withdrawn k n) = []
+  job_given (Answered a) = []
 
   -- the turn number that it gives
-  abbrev pub turn_given : Option (Answer R) → List ℕ
-  turn_given None = []
-  turn_given (Some (Refused r)) = []
-  turn_given (Some (Job j)) = []
-  turn_given (Some (Locked a)) = []
-  turn_given (Some (Turned n)) = n ∷ []
-  turn_given (Some Released) = []
-  turn_given (Some (Closed n k)) = n ∷ []
-  turn_given (Some (Withdrawn k n)) = []
-  turn_given (Some (Answered a)) = []
+  abbrev pub turn_given : Answer R → List ℕ
+  turn_given (Job j) = []
+  turn_given (Locked a) = []
+  turn_given (Turned n) = n ∷ []
+  turn_given Released = []
+  turn_given (Closed n k) = n ∷ []
+  turn_given (Withdrawn k n) = []
+  turn_given (Answered a) = []
 
-  -- the mark, where the answer is that a job has withdrawn
-  abbrev pub if_withdrawn : {A : Type 0} → A → Option (Answer R) → List A
-  if_withdrawn x None = []
-  if_withdrawn x (Some (Refused r)) = []
-  if_withdrawn x (Some (Job j)) = []
-  if_withdrawn x (Some (Locked a)) = []
-  if_withdrawn x (Some (Turned n)) = []
-  if_withdrawn x (Some Released) = []
-  if_withdrawn x (Some (Closed n k)) = []
-  if_withdrawn x (Some (Withdrawn k n)) = x ∷ []
-  if_withdrawn x (Some (Answered a)) = []
+  -- the mark, where it is that a job has withdrawn
+  abbrev pub if_withdrawn : {A : Type 0} → A → Answer R → List A
+  if_withdrawn x (Job j) = []
+  if_withdrawn x (Locked a) = []
+  if_withdrawn x (Turned n) = []
+  if_withdrawn x Released = []
+  if_withdrawn x (Closed n k) = []
+  if_withdrawn x (Withdrawn k n) = x ∷ []
+  if_withdrawn x (Answered a) = []
 
-  -- what an accepted data call answers
-  abbrev pub data_given : Option (Answer R) → List (DataAnswer R)
-  data_given None = []
-  data_given (Some (Refused r)) = []
-  data_given (Some (Job j)) = []
-  data_given (Some (Locked a)) = []
-  data_given (Some (Turned n)) = []
-  data_given (Some Released) = []
-  data_given (Some (Closed n k)) = []
-  data_given (Some (Withdrawn k n)) = []
-  data_given (Some (Answered a)) = a ∷ []
+  -- what a data call answers
+  abbrev pub data_given : Answer R → List (DataAnswer R)
+  data_given (Job j) = []
+  data_given (Locked a) = []
+  data_given (Turned n) = []
+  data_given Released = []
+  data_given (Closed n k) = []
+  data_given (Withdrawn k n) = []
+  data_given (Answered a) = a ∷ []
 
 module _ {P R : Type 0} where
-  abbrev pub marks : Call P R → Option (Answer R) → List (Mark P R)
-  marks (Open c) a = map opens (job_given a)
+  abbrev pub marks : Call P R → Option (Reply (Answer R)) → List (Mark P R)
+  marks (Open c) a = map opens (of_accepted job_given a)
   marks (Lock j w p) a = []
-  marks (Turn j) a = map (turns j) (turn_given a)
+  marks (Turn j) a = map (turns j) (of_accepted turn_given a)
   marks (Release j n) a = []
-  marks (Close j) a = map (turns j) (turn_given a)
-  marks (Withdraw j) a = if_withdrawn (withdraws j) a
-  marks (Data j d) a = map (λ f. does (record { job = j; call = d; answer = f })) (data_given a)
+  marks (Close j) a = map (turns j) (of_accepted turn_given a)
+  marks (Withdraw j) a = of_accepted (if_withdrawn (withdraws j)) a
+  marks (Data j d) a = map (λ f. does (record { job = j; call = d; answer = f })) (of_accepted data_given a)
 
   -- what a transcript tells of its jobs
   abbrev pub history : List (Entry P R) → List (Mark P R)

@@ -1,7 +1,8 @@
 -- Answers as they are printed: each with its word, its number and its values.
-use Rattle.std.specs.Prelude.{ℕ, List, ◌∷◌, ◌++◌, Some, None, codes, decimal, Option}
+use Rattle.std.specs.Prelude.{ℕ, List, ◌∷◌, ◌++◌, Some, None, Ok, Err, codes, decimal, Option}
 use Rattle.rows.specs.declared.trip.Trip.{Trip}
-use Rattle.tables.specs.Refusals.{refusal_number}
+use Rattle.tables.specs.Refusals.{refused_text}
+use Rattle.tables.specs.Jobs.{Reply}
 use Rattle.calls.specs.declared.data.DataAnswer.{DataAnswer}
 use Rattle.calls.specs.declared.data.DataAnswer.TheVariants.{Total, Next, Edit}
 use Rattle.calls.specs.declared.data.EditAnswer.{EditAnswer}
@@ -9,7 +10,7 @@ use Rattle.calls.specs.declared.data.EditAnswer.TheVariants.{Added, Already, Dro
 use Rattle.calls.specs.declared.lock_answer.LockAnswer.{LockAnswer}
 use Rattle.calls.specs.declared.lock_answer.LockAnswer.TheVariants.{Granted, Wait, Withdraw}
 use Rattle.calls.specs.declared.transcript.Answer.{Answer}
-use Rattle.calls.specs.declared.transcript.Answer.TheVariants.{Refused, Job, Lock, Turned, Released, Closed, Withdrawn, Data}
+use Rattle.calls.specs.declared.transcript.Answer.TheVariants.{Job, Lock, Turned, Released, Closed, Withdrawn, Data}
 
 -- numbers with spaces between
 abbrev pub two_numbers : ℕ → ℕ → List ℕ
@@ -41,7 +42,6 @@ data_text (Next r) = next_text r
 data_text (Edit a) = edit_text a
 
 abbrev pub answer_text : Answer Trip → List ℕ
-answer_text (Refused r) = codes "refused " ++ decimal (refusal_number r)
 answer_text (Job j) = codes "job " ++ decimal j
 answer_text (Lock a) = lock_text a
 answer_text (Turned n) = codes "turn " ++ decimal n
@@ -49,3 +49,12 @@ answer_text Released = codes "released"
 answer_text (Closed n k) = codes "closed " ++ two_numbers n k
 answer_text (Withdrawn k n) = codes "withdrawn " ++ two_numbers k n
 answer_text (Data a) = data_text a
+
+-- a refusal is printed with its number
+abbrev pub reply_text : Reply (Answer Trip) → List ℕ
+reply_text (Ok a) = answer_text a
+reply_text (Err e) = refused_text e
+
+-- the call's position in its transcript, and what it was answered
+abbrev pub line_text : ℕ → Reply (Answer Trip) → List ℕ
+line_text n r = decimal n ++ (32 ∷ reply_text r)

@@ -1,4 +1,6 @@
 // A transcript: calls in the order in which they are made, each with its answer once it is made.
+ghost use Rattle.std.specs.Prelude.{◌≡◌, None};
+
 use crate::data::{DataAnswer, DataCall};
 use crate::lock_answer::LockAnswer;
 use tables::entries::Mode;
@@ -15,9 +17,9 @@ pub enum Call<P, R> {
     Data { job: u32, call: DataCall<P, R> },
 }
 
+// What a call gives that is not refused.
 #[derive(Clone, Copy)]
 pub enum Answer<R> {
-    Refused(Refusal),
     Job(u32),
     Lock(LockAnswer),
     Turned(u32),
@@ -32,5 +34,15 @@ pub enum Answer<R> {
 #[derive(Clone, Copy)]
 pub struct Entry<P, R> {
     pub call: Call<P, R>,
-    pub answer: Option<Answer<R>>,
+    pub answer: Option<Result<Answer<R>, Refusal>>,
+}
+
+impl<P, R> Entry<P, R> {
+    // A call that is still to be made.
+    pub fn new(call: Call<P, R>) -> Entry<P, R>
+        ensures call { result.call ≡ call }
+        ensures answer { result.answer ≡ None }
+    {
+        Entry { call, answer: None }
+    }
 }

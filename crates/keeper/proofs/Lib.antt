@@ -1,10 +1,3 @@
 pub mod Told
 pub mod Dealt
 pub mod Withdrawn
-pub mod Listed
-pub mod Finds
-pub mod Holding
-pub mod Steps
-pub mod Rings
-pub mod Lifted
-pub mod Went

@@ -16,14 +16,10 @@ use Rattle.calls.specs.declared.data.DataAnswer.TheVariants.{Total as Figures, E
 use Rattle.calls.specs.declared.data.DataCall.{DataCall}
 use Rattle.calls.specs.declared.data.EditAnswer.{EditAnswer}
 use Rattle.calls.specs.Kinds.{Kinds}
+use Rattle.calls.specs.Runs.{said}
 use Rattle.calls.specs.Systems.{System, entries_due, store_fits, data_call, withdraw_call}
 use Rattle.keeper.specs.declared.keeper.Keeper.{Keeper}
 use Rattle.keeper.specs.Fronts.{front}
-
--- a reply in the words of all data calls
-abbrev pub said : {A B : Type 0} → (A → B) → Reply A → Reply B
-said word (Ok a) = Ok (word a)
-said word (Err e) = Err e
 
 abbrev pub figures : {R : Type 0} → ℕ × ℕ → DataAnswer R
 figures t = Figures t.0 t.1

@@ -1,11 +1,12 @@
 -- What keeper and lent lists hold between them: the used fronts of the lists. What lies past them means nothing.
-use Rattle.std.specs.Prelude.{◌≡◌, ℕ, ◌≤◌, Bool, ◌&&◌, List, [], length, take, Ok, Err, Result, ◌==◌}
+use Rattle.std.specs.Prelude.{◌≡◌, ℕ, ◌-◌, ◌≤◌, Bool, ◌&&◌, List, [], length, take, Ok, Err, Result, ◌==◌}
 use Rattle.tables.specs.declared.entries.LockEntry.{LockEntry}
 use Rattle.tables.specs.declared.entries.Mode.{Mode}
 use Rattle.tables.specs.declared.entries.UndoEntry.{UndoEntry}
 use Rattle.tables.specs.declared.refusal.Refusal.{Refusal}
 use Rattle.tables.specs.declared.refusal.Refusal.TheVariants.{WrongBook}
-use Rattle.tables.specs.Jobs.{Reply, Outcome, Gives, check, fresh_ledger}
+use Rattle.tables.specs.Lent.{Dropped}
+use Rattle.tables.specs.Jobs.{Reply, Outcome, Gives, check, fresh_ledger, end_ledger}
 use Rattle.keeper.specs.declared.keeper.Keeper.{Keeper}
 use Rattle.calls.specs.declared.lock_answer.LockAnswer.{LockAnswer}
 use Rattle.calls.specs.States.{State, lock_call, turn_call, release_call, close_call}
@@ -66,3 +67,12 @@ release_with j n k table = check (length table == k.table) WrongBook (locks_fron
 
 abbrev pub close_with : {P R : Type 0} → ℕ → Keeper → List (LockEntry P) → List (UndoEntry R) → Outcome (State P R) (ℕ × ℕ)
 close_with j k table log = check (length table == k.table && length log == k.log) WrongBook (front k table log) (close_call j (front k table log))
+
+-- the job's locks are given up, n of them, and its place is free; nothing else is altered
+pub record EndsJob {P : Type 0} (j : ℕ) (k : Keeper) (table : List (LockEntry P)) (n : ℕ) (k' : Keeper) (table' : List (LockEntry P)) : Type 0 where
+  pub locks : Dropped (λ (l : LockEntry P). l.job) j (take k.held table) k'.held table'
+  pub count : n ≡ k.held - k'.held
+  pub ledger : k'.jobs.ledger ≡ end_ledger j k.jobs.ledger
+  pub logged : k'.logged ≡ k.logged
+  pub table_len : k'.table ≡ k.table
+  pub log_len : k'.log ≡ k.log

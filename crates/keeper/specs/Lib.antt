@@ -1,9 +1,2 @@
 pub mod Fronts
 pub mod Dealings
-pub mod Shown
-pub mod Runs
-pub mod Serial
-pub mod Ran
-pub mod Examples
-pub use Rattle.calls.specs.States
-pub use Rattle.calls.specs.Orders

@@ -1,4 +1,5 @@
-// What the keeper holds between calls. The lock table, the undo log and the store are the caller's and are lent at each call.
+// What the keeper holds between calls. The lock table, the undo log and the store are the caller's and are lent at each call: a
+// rule of the project. So the used counts and the lengths stand here without the lists.
 ghost use Rattle.std.specs.Prelude.{◌≤◌};
 
 use tables::job_table::JobTable;
@@ -7,6 +8,7 @@ mod altering;
 mod asking;
 mod closing;
 mod editing;
+mod ending;
 mod locking;
 mod opening;
 mod releasing;

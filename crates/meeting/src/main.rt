@@ -1,55 +1,46 @@
-// A report and an upload meet over one box: every call of the two jobs with what the keeper answers.
+// A report and an upload meet over one box: every lock call of the two jobs with what the keeper answers.
 #![tactic(auto)]
 
-use anyhow::anyhow;
-use keeper::running::begin;
-use keeper::transcript::{Call, Entry};
+use calls::shown::Line;
+use calls::transcript::{Call, Entry};
 use policies::age::Age;
-use predicates::BadPredicate;
-use predicates::interval::Interval;
 use predicates::trip_box::TripBox;
+use rows::trip::Trip;
+use runs::running::begin;
+use stores::one_place::OnePlace;
 use tables::entries::{Alteration, LockEntry, Mode, UndoEntry};
-
-// All trips of one day.
-fn on_day(day: u32) -> Result<TripBox, BadPredicate> {
-    let vans = Interval::new(1, 9_999)?;
-    let seconds = Interval::new(0, 86_399)?;
-    let metres = Interval::new(0, 2_000_000)?;
-    TripBox::new(vans, Interval::new(day, day)?, seconds, metres)
-}
-
-fn asked(call: Call<TripBox>) -> Entry<TripBox> {
-    Entry { call, answer: None }
-}
-
-fn locking(job: u32, mode: Mode, predicate: TripBox) -> Entry<TripBox> {
-    asked(Call::Lock {
-        job,
-        mode,
-        predicate,
-    })
-}
 
 // Job 1 is the report, job 2 the upload. The report may wait for the upload, which was opened after it; the upload is
 // told to withdraw where the report is in its way.
-fn both_jobs(day: TripBox) -> [Entry<TripBox>; 9] {
+fn both_jobs(day: TripBox) -> [Entry<TripBox, Trip>; 9] {
     [
-        asked(Call::Open { class: 0 }),
-        asked(Call::Open { class: 0 }),
-        locking(2, Mode::Write, day),
-        locking(1, Mode::Read, day),
-        asked(Call::Close { job: 2 }),
-        locking(1, Mode::Read, day),
-        asked(Call::Turn { job: 1 }),
-        asked(Call::Release { job: 1, lock: 2 }),
-        asked(Call::Close { job: 1 }),
+        Entry::new(Call::Open { class: 0 }),
+        Entry::new(Call::Open { class: 0 }),
+        Entry::new(Call::Lock {
+            job: 2,
+            mode: Mode::Write,
+            predicate: day,
+        }),
+        Entry::new(Call::Lock {
+            job: 1,
+            mode: Mode::Read,
+            predicate: day,
+        }),
+        Entry::new(Call::Close { job: 2 }),
+        Entry::new(Call::Lock {
+            job: 1,
+            mode: Mode::Read,
+            predicate: day,
+        }),
+        Entry::new(Call::Turn { job: 1 }),
+        Entry::new(Call::Release { job: 1, lock: 2 }),
+        Entry::new(Call::Close { job: 1 }),
     ]
 }
 
-fn run(rt: &HostRuntime) -> anyhow::Result<()> {
-    let Ok(day) = on_day(100) else {
-        return Err(anyhow!("no such day"));
-    };
+// Two programs have this text: in one function for both, of a library, the lists would need a contract, and the printing as well.
+fn main(rt: HostRuntime) -> anyhow::Result<()> {
+    let day = TripBox::on_days(100, 100)?;
     let unused = LockEntry {
         job: 0,
         class: 0,
@@ -57,24 +48,25 @@ fn run(rt: &HostRuntime) -> anyhow::Result<()> {
         mode: Mode::Read,
         predicate: day,
     };
+    // Lists of fixed length: the caller lends the keeper its memory, a rule of the project.
     let mut table = [unused; 8];
     let mut log = [UndoEntry {
         job: 0,
-        alteration: Alteration::Added(0u32),
+        alteration: Alteration::Added(Trip::new(7, 100, 3_600, 0, 5_000)?),
     }; 8];
     let mut transcript = both_jobs(day);
-    if begin(&Age, &mut table, &mut log, &mut transcript).is_err() {
-        return Err(anyhow!("wrong lists"));
-    }
+    begin(
+        &Age,
+        &mut table,
+        &mut log,
+        &mut OnePlace::new(),
+        &mut transcript,
+    )?;
     for (i, entry) in transcript.iter().enumerate() {
-        if let Some(answer) = entry.answer {
+        if let Some(reply) = entry.answer {
             let position = i + 1;
-            println!(rt; "{position} {answer}")?;
+            println!(rt; "{}", Line { position, reply })?;
         }
     }
     Ok(())
-}
-
-fn main(rt: HostRuntime) -> anyhow::Result<()> {
-    run(&rt)
 }

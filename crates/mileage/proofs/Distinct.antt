@@ -1,83 +1,37 @@
 -- Gathering keeps each row, and keeps it once.
-use Rattle.std.proofs.Common.{◌≡◌, Bool, true, false, cond, ◌||◌, ◌⊎◌, List, [], ◌∷◌, ◌++◌, Ordering, Less, Equal, Greater, sym, refl, ap, ◌∙◌, subst, inl, inr, ⊎_elim, true≢false}
+use Rattle.std.proofs.Common.{◌≡◌, ◌≢◌, Bool, true, false, cond, List, [], ◌∷◌, ◌++◌, Ordering, sym, refl, ap, ◌∙◌, subst, ⊎_elim, arith, append_assoc, append-nil}
+use Rattle.std.specs.List.{Contains, fold}
 use Rattle.std.specs.Ordering.{is_eq}
+use Rattle.std.proofs.lemmas.Bool.{both_ways}
+use Rattle.std.proofs.lemmas.List.Elements.{Contains-append_left, Contains-push, Contains-push_cases}
+use Rattle.std.proofs.lemmas.List.Quantifiers.{all_pairs_push}
+use Rattle.std.proofs.lemmas.List.Folds.{list_any_at}
+use Rattle.std.proofs.lemmas.Map.Views.{Contains-from_any}
 use Rattle.rows.specs.Orders.{Strict}
-use Rattle.mileage.specs.Once.{In, Distinct, EachOnce, among, gathered}
-
-equal_is : (o : Ordering) → is_eq o ≡ true → o ≡ Equal
-equal_is Less e = absurd (true≢false (sym e))
-equal_is Equal e = refl
-equal_is Greater e = absurd (true≢false (sym e))
-
-module _ {R : Type 0} where
-  in_left : (xs : List R) (y x : R) → In xs x → In (xs ++ y ∷ []) x
-  in_left [] y x h = absurd h
-  in_left (z ∷ xs) y x (inl e) = inl e
-  in_left (z ∷ xs) y x (inr h) = inr (in_left xs y x h)
-
-  in_last : (xs : List R) (y x : R) → y ≡ x → In (xs ++ y ∷ []) x
-  in_last [] y x e = inl e
-  in_last (z ∷ xs) y x e = inr (in_last xs y x e)
-
-  in_push : (xs : List R) (y x : R) → In (xs ++ y ∷ []) x → In xs x ⊎ (y ≡ x)
-  in_push [] y x (inl e) = inr e
-  in_push [] y x (inr h) = absurd h
-  in_push (z ∷ xs) y x (inl e) = inl (inl e)
-  in_push (z ∷ xs) y x (inr h) = ⊎_elim (λ k. inl (inr k)) inr (in_push xs y x h)
-
-  distinct_push : (xs : List R) (y : R) → Distinct xs → (In xs y → ⊥) → Distinct (xs ++ y ∷ [])
-  distinct_push [] y d n = (λ h. h, tt)
-  distinct_push (z ∷ xs) y d n = (λ h. ⊎_elim d.0 (λ e. n (inl (sym e))) (in_push xs y z h), distinct_push xs y d.1 (λ h. n (inr h)))
+use Rattle.stores.proofs.Sets.{equal_self, equal_means}
+use Rattle.mileage.specs.Once.{EachOnce, among, gathered, seen_with}
 
 module _ {R : Type 0} {order : R → R → Ordering} (laws : Strict order) where
-  in_test : (x y : R) (ys : List R) (b : Bool) → is_eq (order y x) ≡ b → (b || among order x ys) ≡ true → (among order x ys ≡ true → In ys x) → In (y ∷ ys) x
-  in_test x y ys true e h more = inl (laws.same y x (equal_is (order y x) e))
-  in_test x y ys false e h more = inr (more h)
-
-  among_in : (x : R) (ys : List R) → among order x ys ≡ true → In ys x
-  among_in x [] h = absurd (true≢false (sym h))
-  among_in x (y ∷ ys) h = in_test x y ys (is_eq (order y x)) refl h (among_in x ys)
-
-  or_true : (b : Bool) → (b || true) ≡ true
-  or_true true = refl
-  or_true false = refl
-
-  in_among : (x : R) (ys : List R) → In ys x → among order x ys ≡ true
-  in_among x [] h = absurd h
-  in_among x (y ∷ ys) (inl e) = ap (λ b. b || among order x ys) (ap is_eq (subst (λ z. order y z ≡ Equal) e (laws.itself y)))
-  in_among x (y ∷ ys) (inr h) = ap (λ b. is_eq (order y x) || b) (in_among x ys h) ∙ or_true (is_eq (order y x))
+  among_contained : (x : R) (ys : List R) → among order x ys ≡ true → Contains ys x
+  among_contained x ys = Contains-from_any {eq = λ x y. is_eq (order y x)} (λ x y e. sym (equal_means laws y x e)) x ys
 
   -- one row more, by whether it was seen
-  kept_distinct : (seen : List R) (x : R) (b : Bool) → among order x seen ≡ b → Distinct seen → Distinct (cond b seen (seen ++ x ∷ []))
-  kept_distinct seen x true e d = d
-  kept_distinct seen x false e d = distinct_push seen x d (λ h. true≢false (sym (in_among x seen h) ∙ e))
+  once_more : (xs ys : List R) (x : R) (b : Bool) → among order x ys ≡ b → EachOnce xs ys → EachOnce (xs ++ x ∷ []) (cond b ys (ys ++ x ∷ []))
+  once_more xs ys x true e o = record {
+    all = λ z h. ⊎_elim (o.all z) (λ s. subst (Contains ys) s (among_contained x ys e)) (Contains-push_cases xs x z h);
+    only = λ z h. Contains-append_left xs (x ∷ []) z (o.only z h);
+    distinct = o.distinct;
+  }
+  once_more xs ys x false e o = record {
+    all = λ z h. ⊎_elim (λ k. Contains-append_left ys (x ∷ []) z (o.all z k)) (λ s. subst (Contains (ys ++ x ∷ [])) s (Contains-push ys x)) (Contains-push_cases xs x z h);
+    only = λ z h. ⊎_elim (λ k. Contains-append_left xs (x ∷ []) z (o.only z k)) (λ s. subst (Contains (xs ++ x ∷ [])) s (Contains-push xs x)) (Contains-push_cases ys x z h);
+    distinct = all_pairs_push (λ x y. x ≢ y) ys x o.distinct (λ k d lt s. both_ways _ e (list_any_at _ ys k d lt (ap (λ z. is_eq (order z x)) s ∙ equal_self laws x)));
+  }
 
-  kept_all : (seen : List R) (x : R) (b : Bool) → among order x seen ≡ b → (z : R) → In seen z ⊎ (x ≡ z) → In (cond b seen (seen ++ x ∷ [])) z
-  kept_all seen x true e z h = ⊎_elim (λ k. k) (λ s. subst (In seen) s (among_in x seen e)) h
-  kept_all seen x false e z h = ⊎_elim (in_left seen x z) (in_last seen x z) h
+  -- the rows that were seen, and those that come
+  once_on : (more xs ys : List R) → EachOnce xs ys → EachOnce (xs ++ more) (fold (seen_with order) ys more)
+  once_on [] xs ys o = rw append-nil o
+  once_on (x ∷ more) xs ys o = rw (← append_assoc xs (x ∷ []) more) (once_on more _ _ (once_more xs ys x _ refl o))
 
-  kept_only : (seen : List R) (x : R) (b : Bool) (z : R) → In (cond b seen (seen ++ x ∷ [])) z → In seen z ⊎ (x ≡ z)
-  kept_only seen x true z h = inl h
-  kept_only seen x false z h = in_push seen x z h
-
-  -- what has been seen, and what comes
-  record Gathers (seen xs : List R) : Type 0 where
-    all : (z : R) → In seen z ⊎ In xs z → In (gathered order seen xs) z
-    only : (z : R) → In (gathered order seen xs) z → In seen z ⊎ In xs z
-    distinct : Distinct (gathered order seen xs)
-
-  gathers : (seen xs : List R) → Distinct seen → Gathers seen xs
-  gathers seen [] d = record { all = λ z h. ⊎_elim (λ k. k) (λ k. absurd k) h; only = λ z h. inl h; distinct = d }
-  gathers seen (x ∷ xs) d =
-      let b = among order x seen in
-      let rest = gathers (cond b seen (seen ++ x ∷ [])) xs (kept_distinct seen x b refl d) in
-      record {
-        all = λ z h. rest.all z (⊎_elim (λ k. inl (kept_all seen x b refl z (inl k))) (⊎_elim (λ e. inl (kept_all seen x b refl z (inr e))) inr) h);
-        only = λ z h. ⊎_elim (λ k. ⊎_elim inl (λ e. inr (inl e)) (kept_only seen x b z k)) (λ k. inr (inr k)) (rest.only z h);
-        distinct = rest.distinct;
-      }
-
-  pub gathered_once : (xs : List R) → EachOnce xs (gathered order [] xs)
-  gathered_once xs =
-      let g = gathers [] xs tt in
-      record { all = λ x h. g.all x (inr h); only = λ x h. ⊎_elim (λ k. absurd k) (λ k. k) (g.only x h); distinct = g.distinct }
+  pub gathered_once : (xs : List R) → EachOnce xs (gathered order xs)
+  gathered_once xs = once_on xs [] [] (record { all = λ x h. h; only = λ x h. h; distinct = λ i j d l m. absurd (omega arith) })

@@ -1,3 +1,1 @@
-pub mod Sums
-pub mod Seen
 pub mod Distinct

@@ -1,5 +1,6 @@
 -- The figures of each box, and how they are printed.
-use Rattle.std.specs.Prelude.{ℕ, ◌+◌, List, [], ◌∷◌, ◌++◌, decimal, sum_by, count_by, filter}
+use Rattle.std.specs.Prelude.{ℕ, ◌+◌, List, ◌∷◌, ◌++◌, decimal, length, map, sum_by, filter}
+use Rattle.std.specs.List.{enumerate_from}
 use Rattle.rows.specs.declared.trip.Trip.{Trip}
 use Rattle.rows.specs.Trips.{trip_order}
 use Rattle.predicates.specs.declared.trip_box.TripBox.{TripBox}
@@ -15,15 +16,14 @@ figures_text f = decimal f.number ++ (32 ∷ (decimal f.trips ++ (32 ∷ decimal
 abbrev pub box_figures : List Trip → ℕ → TripBox → BoxFigures
 box_figures trips n b = record {
   number = n;
-  trips = count_by (box_holds b) trips;
+  trips = length (filter (box_holds b) trips);
   metres = sum_by (λ (t : Trip). t.metres) (filter (box_holds b) trips);
 }
 
--- boxes numbered from n
-abbrev pub each_box : List Trip → ℕ → List TripBox → List BoxFigures
-each_box trips n [] = []
-each_box trips n (b ∷ bs) = box_figures trips n b ∷ each_box trips (n + 1) bs
+-- boxes numbered from 1
+abbrev pub each_box : List Trip → List TripBox → List BoxFigures
+each_box trips boxes = map (λ p. box_figures trips (p.0 + 1) p.1) (enumerate_from 0 boxes)
 
 -- repeated trips count once
 abbrev pub mileage : List Trip → List TripBox → List BoxFigures
-mileage trips boxes = each_box (gathered trip_order [] trips) 1 boxes
+mileage trips boxes = each_box (gathered trip_order trips) boxes

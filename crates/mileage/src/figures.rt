@@ -3,12 +3,13 @@ ghost use Rattle.std.specs.Prelude.{◌≡◌, ◌≤◌, length, IfOk, Some};
 ghost use Rattle.mileage.specs.Figures.{figures_text, box_figures, each_box, mileage};
 
 use crate::once::each_once;
-use crate::tally::tally;
 use predicates::trip_box::TripBox;
 use rows::trip::Trip;
 use scripts::sections::Sections;
 use std::alloc::{AllocError, Global};
 use std::fmt;
+use stores::few_rows::Listed;
+use stores::scans::total_of;
 
 // A box's number, counted from 1, how many trips hold in it, and their metres.
 #[derive(Clone, Copy)]
@@ -22,9 +23,11 @@ impl fmt::Display for BoxFigures {
     ghost output = { λ f. Some (figures_text f) };
 
     fn fmt<W: fmt::Write>(&self, f: &mut fmt::Formatter<W>) -> fmt::Result {
-        let number = self.number;
-        let trips = self.trips;
-        let metres = self.metres;
+        let BoxFigures {
+            number,
+            trips,
+            metres,
+        } = *self;
         write!(f, "{number} {trips} {metres}")
     }
 }
@@ -33,7 +36,7 @@ fn of_box(number: usize, trips: &[Trip], wanted: &TripBox) -> BoxFigures
     requires { length trips.now ≤ 512 }
     ensures { result ≡ box_figures trips.now number wanted.now }
 {
-    let (trips, metres) = tally(trips, wanted);
+    let (trips, metres) = total_of(Listed::first_of(trips), wanted);
     BoxFigures {
         number,
         trips,
@@ -43,13 +46,13 @@ fn of_box(number: usize, trips: &[Trip], wanted: &TripBox) -> BoxFigures
 
 fn of_boxes(heap: Global, trips: &[Trip], boxes: &[TripBox]) -> Result<Vec<BoxFigures>, AllocError>
     requires { length trips.now ≤ 512 }
-    ensures { IfOk result (λ v. v.items ≡ each_box trips.now 1 boxes.now) }
+    ensures { IfOk result (λ v. v.items ≡ each_box trips.now boxes.now) }
 {
-    let mut list = Vec::new(heap);
-    for (i, wanted) in boxes.iter().enumerate() {
-        list.push(of_box(i + 1, trips, wanted))?;
-    }
-    Ok(list)
+    boxes
+        .iter()
+        .enumerate()
+        .map(|(i, wanted)| of_box(i + 1, trips, wanted))
+        .collect(heap)
 }
 
 // The figures of every box, each trip counted once.

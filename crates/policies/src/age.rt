@@ -2,7 +2,7 @@
 ghost use Rattle.policies.specs.Ages.{younger, by_number};
 ghost use Rattle.std.proofs.Common.{rules};
 
-use crate::wait_policy::WaitPolicy;
+use crate::wait_policy::{Standing, WaitPolicy};
 
 #[derive(Clone, Copy)]
 pub struct Age;
@@ -14,7 +14,7 @@ impl WaitPolicy for Age {
 
     ghost ranked = { Prim.search rules };
 
-    fn may_wait(&self, _asker_class: u8, asker: u32, _holder_class: u8, holder: u32) -> bool {
-        asker < holder
+    fn may_wait(&self, asker: Standing, holder: Standing) -> bool {
+        asker.number < holder.number
     }
 }

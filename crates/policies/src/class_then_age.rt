@@ -2,7 +2,7 @@
 ghost use Rattle.policies.specs.Classes.{greater_class, by_class};
 ghost use Rattle.std.proofs.Common.{rules};
 
-use crate::wait_policy::WaitPolicy;
+use crate::wait_policy::{Standing, WaitPolicy};
 
 #[derive(Clone, Copy)]
 pub struct ClassThenAge;
@@ -14,7 +14,7 @@ impl WaitPolicy for ClassThenAge {
 
     ghost ranked = { Prim.search rules };
 
-    fn may_wait(&self, asker_class: u8, asker: u32, holder_class: u8, holder: u32) -> bool {
-        asker_class < holder_class || asker_class == holder_class && asker < holder
+    fn may_wait(&self, asker: Standing, holder: Standing) -> bool {
+        asker < holder
     }
 }

@@ -2,7 +2,7 @@
 ghost use Rattle.policies.specs.Nevers.{nobody, no_rank};
 ghost use Rattle.std.proofs.Common.{rules};
 
-use crate::wait_policy::WaitPolicy;
+use crate::wait_policy::{Standing, WaitPolicy};
 
 #[derive(Clone, Copy)]
 pub struct Never;
@@ -14,7 +14,7 @@ impl WaitPolicy for Never {
 
     ghost ranked = { Prim.search rules };
 
-    fn may_wait(&self, _asker_class: u8, _asker: u32, _holder_class: u8, _holder: u32) -> bool {
+    fn may_wait(&self, _asker: Standing, _holder: Standing) -> bool {
         false
     }
 }

@@ -1,2 +1,3 @@
 pub mod Days
+pub mod Ranges
 pub mod Worked

@@ -8,6 +8,4 @@ pub mod Windows
 pub mod WindowMeaning
 pub mod Boths
 pub mod Examples
-pub mod IntervalsLemmas
-pub mod Joint
 pub mod HireWindowPredicateLemmas

@@ -8,6 +8,7 @@ mod relations;
 
 pub use meaning::{is_part_of, share_none};
 
+// A type of its own: std's `RangeInclusive` is not `Copy`, and its ends may be out of order.
 #[derive(Clone, Copy)]
 pub struct Interval {
     low: u32,

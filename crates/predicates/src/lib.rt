@@ -9,8 +9,11 @@ pub mod predicate;
 pub mod state_set;
 pub mod trip_box;
 
+use thiserror::Error;
+
 // A range with its low end above its high one or outside its field, or an empty set of states.
-#[derive(Clone, Copy, PartialEq, Eq, Debug)]
+#[derive(Clone, Copy, PartialEq, Eq, Debug, Error)]
+#[error("a range out of order or outside its field, or an empty set of states")]
 pub struct BadPredicate;
 
 #[cfg(test)]
@@ -27,13 +30,6 @@ mod tests {
     use rows::trip::Trip;
     use std::test::Fail;
 
-    fn on_days(low: u32, high: u32) -> Result<TripBox, BadPredicate> {
-        let vans = Interval::new(1, 9_999)?;
-        let seconds = Interval::new(0, 86_399)?;
-        let metres = Interval::new(0, 2_000_000)?;
-        TripBox::new(vans, Interval::new(low, high)?, seconds, metres)
-    }
-
     fn on_vans(low: u32, high: u32) -> Result<TripBox, BadPredicate> {
         let days = Interval::new(0, 36_524)?;
         let seconds = Interval::new(0, 86_399)?;
@@ -47,15 +43,15 @@ mod tests {
 
     #[test]
     fn boxes(rt: HostRuntime) -> Result<(), Fail> {
-        let day = on_days(100, 100)?;
-        assert!(rt; day.apart(&on_days(101, 101)?));
-        assert!(rt; !on_days(100, 101)?.apart(&on_days(101, 105)?));
-        assert!(rt; on_days(90, 110)?.covers(&day));
-        assert!(rt; !day.covers(&on_days(90, 110)?));
+        let day = TripBox::on_days(100, 100)?;
+        assert!(rt; day.apart(&TripBox::on_days(101, 101)?));
+        assert!(rt; !TripBox::on_days(100, 101)?.apart(&TripBox::on_days(101, 105)?));
+        assert!(rt; TripBox::on_days(90, 110)?.covers(&day));
+        assert!(rt; !day.covers(&TripBox::on_days(90, 110)?));
         assert!(rt; day.holds(&Trip::new(7, 100, 3_600, 0, 5_000)?));
         assert!(rt; !day.holds(&Trip::new(7, 101, 3_600, 0, 5_000)?));
-        assert!(rt; on_days(101, 100).is_err());
-        assert!(rt; on_days(0, 36_525).is_err());
+        assert!(rt; TripBox::on_days(101, 100).is_err());
+        assert!(rt; TripBox::on_days(0, 36_525).is_err());
         assert!(rt; on_vans(0, 5).is_err());
         Ok(())
     }

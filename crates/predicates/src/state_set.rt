@@ -1,4 +1,4 @@
-// A set of states of a hire, never empty.
+// A set of states of a hire, never empty. Three flags: sets of bits say in no contract which states they have.
 ghost use Rattle.std.specs.Prelude.{◌≡◌, true, false, ◌||◌, MatchResult};
 
 use crate::BadPredicate;

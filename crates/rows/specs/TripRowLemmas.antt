@@ -1,16 +1,16 @@
 -- Trips are strictly ordered.
-use Rattle.std.specs.Prelude.{◌≡◌, ℕ}
+use Rattle.std.proofs.Common.{arith}
+use Rattle.std.proofs.lemmas.Bool.Decides.{nat_tests}
 use denote.Struct.Record.{values_one}
-use Rattle.rows.specs.declared.trip.Trip.{Trip}
+use Rattle.std.proofs.lemmas.Map.Lookups.{CmpEqualImpliesEq}
+use Rattle.rows.specs.Orders.{Strict}
 use Rattle.rows.specs.contracts.trip.Trip.{struct, the_type}
+use Rattle.rows.specs.contracts.trip.TripOrd.TheImpl.Laws as derived
 use Rattle.rows.specs.Trips.{trip_order}
-use Rattle.rows.specs.OrdersLemmas.{Telling, number, and_then, by}
+use Rattle.rows.specs.OrdersLemmas.{strict}
 
-abbrev pub key : Trip → ℕ × (ℕ × (ℕ × (ℕ × ℕ)))
-key t = (t.van, (t.day, (t.second, (t.cell, t.metres))))
+trips_exact : CmpEqualImpliesEq trip_order
+trips_exact x y e = values_one struct the_type.propositions x y (grind (arith, nat_tests))
 
-pub key_one : (x y : Trip) → key x ≡ key y → x ≡ y
-key_one x y e = values_one struct the_type.propositions x y (λ i. ((e i).0, ((e i).1.0, ((e i).1.1.0, ((e i).1.1.1.0, ((e i).1.1.1.1, tt))))))
-
-abbrev pub trips : Telling trip_order
-trips = by key key_one (and_then number (and_then number (and_then number (and_then number number))))
+pub trips : Strict trip_order
+trips = strict derived.total-law trips_exact

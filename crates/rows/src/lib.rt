@@ -5,8 +5,11 @@ pub mod hire;
 pub mod row;
 pub mod trip;
 
+use thiserror::Error;
+
 // A row outside the limits of its kind.
-#[derive(Clone, Copy, PartialEq, Eq, Debug)]
+#[derive(Clone, Copy, PartialEq, Eq, Debug, Error)]
+#[error("a row outside the limits of its kind")]
 pub struct BadRow;
 
 #[cfg(test)]

@@ -21,8 +21,8 @@ pub trait Row: Copy + Ord {
     fn quantity(&self) -> u32
         ensures { result ≡ amount self.now };
 
-    // Whatever `cmp` answers is the order.
-    ghost compared: { (x y : Self) (r : Ordering) → (r ≡ Self.Ord.cmp x y) → r ≡ order x y };
+    // The order is what `cmp` answers.
+    ghost compared: { (x y : Self) → Self.Ord.cmp x y ≡ order x y };
 
     ghost strict: { Strict order };
 }

@@ -22,7 +22,7 @@ impl Trip {
     pub fn new(van: u32, day: u32, second: u32, cell: u32, metres: u32) -> Result<Trip, BadRow>
         ensures { MatchResult result (λ t. (t.van ≡ van) × (t.day ≡ day) × (t.second ≡ second) × (t.cell ≡ cell) × (t.metres ≡ metres)) (λ _. (TripLimits van day second metres → ⊥)) }
     {
-        if van < 1 || van > 9_999 || day > 36_524 || second > 86_399 || metres > 2_000_000 {
+        if !(1..=9_999).contains(&van) || day > 36_524 || second > 86_399 || metres > 2_000_000 {
             return Err(BadRow);
         }
         Ok(Trip {

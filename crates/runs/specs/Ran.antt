@@ -4,7 +4,8 @@ use Rattle.tables.specs.declared.entries.LockEntry.{LockEntry}
 use Rattle.tables.specs.declared.entries.UndoEntry.{UndoEntry}
 use Rattle.tables.specs.declared.refusal.Refusal.{Refusal}
 use Rattle.tables.specs.declared.refusal.Refusal.TheVariants.{WrongBook}
-use Rattle.tables.specs.Jobs.{fresh_ledger}
+use Rattle.tables.specs.Jobs.{Reply, fresh_ledger}
+use Rattle.calls.specs.declared.data.DataAnswer.{DataAnswer}
 use Rattle.calls.specs.declared.data.DataCall.{DataCall}
 use Rattle.calls.specs.declared.transcript.Answer.{Answer}
 use Rattle.calls.specs.declared.transcript.Call.{Call}
@@ -12,7 +13,7 @@ use Rattle.calls.specs.declared.transcript.Entry.{Entry}
 use Rattle.calls.specs.Examples.{new_state}
 use Rattle.calls.specs.Kinds.{Kinds}
 use Rattle.calls.specs.Systems.{System, data_call}
-use Rattle.calls.specs.Runs.{data_answer, answered, leaving, answers, left_by, calls, told}
+use Rattle.calls.specs.Runs.{answered, leaving, answers, left_by, calls, told}
 use Rattle.calls.specs.Serial.{history, OneAfterAnother}
 use Rattle.keeper.specs.declared.keeper.Keeper.{Keeper}
 use Rattle.keeper.specs.Fronts.{front}
@@ -38,14 +39,14 @@ new_system n m rows places = record { state = new_state n m; rows = rows; places
 
 -- a data call of a run
 pub record DataSteps {P R : Type 0} (K : Kinds P R) (j : ℕ) (d : DataCall P R) (k : Keeper) (table : List (LockEntry P)) (log : List (UndoEntry R)) (rows : List R) (places : ℕ)
-    (a : Answer R) (k' : Keeper) (log' : List (UndoEntry R)) (rows' : List R) (places' : ℕ) : Type 0 where
-  pub answer : a ≡ data_answer (data_call K j d (system k table log rows places)).reply
+    (a : Reply (DataAnswer R)) (k' : Keeper) (log' : List (UndoEntry R)) (rows' : List R) (places' : ℕ) : Type 0 where
+  pub answer : a ≡ (data_call K j d (system k table log rows places)).reply
   pub state : system k' table log' rows' places' ≡ (data_call K j d (system k table log rows places)).state
 
 module _ {P R : Type 0} (K : Kinds P R) (allows : ℕ → ℕ → ℕ → ℕ → Bool) where
   -- one call
   pub record Steps (c : Call P R) (k : Keeper) (table : List (LockEntry P)) (log : List (UndoEntry R)) (rows : List R) (places : ℕ)
-      (a : Answer R) (k' : Keeper) (table' : List (LockEntry P)) (log' : List (UndoEntry R)) (rows' : List R) (places' : ℕ) : Type 0 where
+      (a : Reply (Answer R)) (k' : Keeper) (table' : List (LockEntry P)) (log' : List (UndoEntry R)) (rows' : List R) (places' : ℕ) : Type 0 where
     pub answer : a ≡ answered K allows c (system k table log rows places)
     pub state : system k' table' log' rows' places' ≡ leaving K allows c (system k table log rows places)
 

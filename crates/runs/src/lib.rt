@@ -1,6 +1,5 @@
 // Runs: the calls of a transcript made one after the other, and what every run of a fresh keeper amounts to.
 #![tactic(auto)]
 
-mod answers;
 pub mod running;
 mod steps;

@@ -21,14 +21,12 @@ pub fn run<P: Predicate, S: Store<Row = P::Row>, W: WaitPolicy>(
     store: &mut S,
     transcript: &mut [Entry<P, P::Row>],
 ) -> Result<(), Refusal>
-    ensures ran { Ran (kinds P.Row.Row.order P.Row.Row.amount P.Predicate.holds P.Predicate.apart P.Predicate.covers) W.WaitPolicy.allows keeper.old table.old log.old (S.Store.rows store.old) (S.Store.places store.old) transcript.old result keeper.new table.new log.new (S.Store.rows store.new) (S.Store.places store.new) transcript.new }
-    ensures lawful { Lawful (kinds P.Row.Row.order P.Row.Row.amount P.Predicate.holds P.Predicate.apart P.Predicate.covers) W.WaitPolicy.allows keeper.old (S.Store.rows store.old) result keeper.new table.new log.new (S.Store.rows store.new) transcript.new }
+    ensures ran { Ran (kinds P.Row.Row.own P.Predicate) W.allows keeper.old table.old log.old (S.rows store.old) (S.places store.old) transcript.old result keeper.new table.new log.new (S.rows store.new) (S.places store.new) transcript.new }
+    ensures lawful { Lawful (kinds P.Row.Row.own P.Predicate) W.allows keeper.old (S.rows store.old) result keeper.new table.new log.new (S.rows store.new) transcript.new }
 {
     if table.len() != keeper.table_len() || log.len() != keeper.log_len() {
         return Err(Refusal::WrongBook);
     }
-    // The law rests on what every store promises with each answer: that its rows ascend and fit.
-    let _ = store.size();
     for entry in transcript.iter_mut() {
         entry.answer = Some(step(keeper, policy, table, log, store, &entry.call));
     }
@@ -43,16 +41,9 @@ pub fn begin<P: Predicate, S: Store<Row = P::Row>, W: WaitPolicy>(
     store: &mut S,
     transcript: &mut [Entry<P, P::Row>],
 ) -> Result<Keeper, Refusal>
-    ensures { Began (kinds P.Row.Row.order P.Row.Row.amount P.Predicate.holds P.Predicate.apart P.Predicate.covers) W.WaitPolicy.allows table.old log.old (S.Store.rows store.old) (S.Store.places store.old) transcript.old result table.new log.new (S.Store.rows store.new) (S.Store.places store.new) transcript.new }
+    ensures { Began (kinds P.Row.Row.own P.Predicate) W.allows table.old log.old (S.rows store.old) (S.places store.old) transcript.old result table.new log.new (S.rows store.new) (S.places store.new) transcript.new }
 {
-    match Keeper::new(table.len(), log.len()) {
-        Err(refusal) => Err(refusal),
-        Ok(made) => {
-            let mut keeper = made;
-            match run(&mut keeper, policy, table, log, store, transcript) {
-                Err(refusal) => Err(refusal),
-                Ok(()) => Ok(keeper),
-            }
-        }
-    }
+    let mut keeper = Keeper::new(table.len(), log.len())?;
+    run(&mut keeper, policy, table, log, store, transcript)?;
+    Ok(keeper)
 }

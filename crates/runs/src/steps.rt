@@ -1,18 +1,19 @@
-// One call of a transcript.
+// One call of a transcript. The calls are data, of which the law speaks, so the step is chosen by `match`. Each arm is `Ok` of `?`
+// and not `map`: the check does not follow `map` to an answer whose type names rows, where what is mapped names none. The lists, the
+// store and the policy go along one by one: each call is lent only what it uses, a rule of the project, and a struct of them would
+// lend everything to every call.
 ghost use Rattle.std.specs.Prelude.{◌≡◌, length};
 ghost use Rattle.calls.specs.Kinds.{kinds};
 ghost use Rattle.runs.specs.Ran.{Steps, DataSteps};
 
-use crate::answers::{
-    closed, edited, found, locked, opened, released, totalled, turned, withdrawn,
-};
-use calls::data::DataCall;
+use calls::data::{DataAnswer, DataCall};
 use calls::transcript::{Answer, Call};
 use keeper::keeper::Keeper;
 use policies::wait_policy::WaitPolicy;
 use predicates::predicate::Predicate;
 use stores::store::Store;
 use tables::entries::{LockEntry, UndoEntry};
+use tables::refusal::Refusal;
 
 fn data_step<P: Predicate, S: Store<Row = P::Row>>(
     keeper: &mut Keeper,
@@ -21,19 +22,32 @@ fn data_step<P: Predicate, S: Store<Row = P::Row>>(
     store: &mut S,
     job: u32,
     call: DataCall<P, P::Row>,
-) -> Answer<P::Row>
+) -> Result<DataAnswer<P::Row>, Refusal>
     requires table { length table.now ≡ keeper.old.table }
     requires log { length log.old ≡ keeper.old.log }
-    ensures { DataSteps (kinds P.Row.Row.order P.Row.Row.amount P.Predicate.holds P.Predicate.apart P.Predicate.covers) job call keeper.old table.now log.old (S.Store.rows store.old) (S.Store.places store.old) result keeper.new log.new (S.Store.rows store.new) (S.Store.places store.new) }
+    ensures { DataSteps (kinds P.Row.Row.own P.Predicate) job call keeper.old table.now log.old (S.rows store.old) (S.places store.old) result keeper.new log.new (S.rows store.new) (S.places store.new) }
 {
     match call {
-        DataCall::Total(predicate) => totalled(keeper.total(table, store, job, predicate)),
-        DataCall::Next(predicate, after) => {
-            found(keeper.next(table, store, job, predicate, after))
+        DataCall::Total(predicate) => {
+            let (count, sum) = keeper.total(table, store, job, predicate)?;
+            Ok(DataAnswer::Total(count, sum))
         }
-        DataCall::Add(row) => edited(keeper.add(table, log, store, job, row)),
-        DataCall::Drop(row) => edited(keeper.drop(table, log, store, job, row)),
-        DataCall::Change { old, new } => { edited(keeper.change(table, log, store, job, old, new)) }
+        DataCall::Next(predicate, after) => {
+            let row = keeper.next(table, store, job, predicate, after)?;
+            Ok(DataAnswer::Next(row))
+        }
+        DataCall::Add(row) => {
+            let answer = keeper.add(table, log, store, job, row)?;
+            Ok(DataAnswer::Edit(answer))
+        }
+        DataCall::Drop(row) => {
+            let answer = keeper.drop(table, log, store, job, row)?;
+            Ok(DataAnswer::Edit(answer))
+        }
+        DataCall::Change { old, new } => {
+            let answer = keeper.change(table, log, store, job, old, new)?;
+            Ok(DataAnswer::Edit(answer))
+        }
     }
 }
 
@@ -44,22 +58,43 @@ pub(crate) fn step<P: Predicate, S: Store<Row = P::Row>, W: WaitPolicy>(
     log: &mut [UndoEntry<P::Row>],
     store: &mut S,
     call: &Call<P, P::Row>,
-) -> Answer<P::Row>
+) -> Result<Answer<P::Row>, Refusal>
     requires table { length table.old ≡ keeper.old.table }
     requires log { length log.old ≡ keeper.old.log }
-    ensures { Steps (kinds P.Row.Row.order P.Row.Row.amount P.Predicate.holds P.Predicate.apart P.Predicate.covers) W.WaitPolicy.allows call.now keeper.old table.old log.old (S.Store.rows store.old) (S.Store.places store.old) result keeper.new table.new log.new (S.Store.rows store.new) (S.Store.places store.new) }
+    ensures { Steps (kinds P.Row.Row.own P.Predicate) W.allows call.now keeper.old table.old log.old (S.rows store.old) (S.places store.old) result keeper.new table.new log.new (S.rows store.new) (S.places store.new) }
 {
     match *call {
-        Call::Open { class } => opened(keeper.open(class)),
+        Call::Open { class } => {
+            let job = keeper.open(class)?;
+            Ok(Answer::Job(job))
+        }
         Call::Lock {
             job,
             mode,
             predicate,
-        } => locked(keeper.lock(policy, table, job, mode, predicate)),
-        Call::Turn { job } => turned(keeper.turn(log, job)),
-        Call::Release { job, lock } => released(keeper.release(table, job, lock)),
-        Call::Close { job } => closed(keeper.close(table, log, job)),
-        Call::Withdraw { job } => withdrawn(keeper.withdraw(table, log, store, job)),
-        Call::Data { job, call } => data_step(keeper, table, log, store, job, call),
+        } => {
+            let told = keeper.lock(policy, table, job, mode, predicate)?;
+            Ok(Answer::Lock(told))
+        }
+        Call::Turn { job } => {
+            let turn = keeper.turn(log, job)?;
+            Ok(Answer::Turned(turn))
+        }
+        Call::Release { job, lock } => {
+            keeper.release(table, job, lock)?;
+            Ok(Answer::Released)
+        }
+        Call::Close { job } => {
+            let (turn, locks) = keeper.close(table, log, job)?;
+            Ok(Answer::Closed(turn, locks))
+        }
+        Call::Withdraw { job } => {
+            let (locks, entries) = keeper.withdraw(table, log, store, job)?;
+            Ok(Answer::Withdrawn(locks, entries))
+        }
+        Call::Data { job, call } => {
+            let answer = data_step(keeper, table, log, store, job, call)?;
+            Ok(Answer::Data(answer))
+        }
     }
 }

@@ -1,6 +1,5 @@
-pub mod Texts
-pub mod Made
 pub mod Steps
+pub mod Passes
 pub mod Decimal
 pub mod Written
 pub mod Whole

@@ -1,10 +1,11 @@
 -- Whole texts: from the sections to what is accepted.
-use Rattle.std.proofs.Common.{◌≡◌, ℕ, ◌+◌, ◌*◌, ◌<◌, ◌≤◌, Bool, true, false, cond, leb, List, [], ◌∷◌, ◌++◌, map, length, Ok, Err, vec_items, Result, sym, refl, ap, ◌∙◌, subst, append-nil, zero-le, suc-mul, arith, length-append}
+use Rattle.std.proofs.Common.{rules, ◌≡◌, ℕ, ◌+◌, ◌*◌, ◌≤◌, Bool, true, false, leb, List, [], ◌∷◌, ◌++◌, map, length, IfOk, Ok, Err, vec_items, Result, refl, ap, ◌∙◌, append-nil, zero-le, suc-mul, arith, length-append}
 use denote.Struct.Record.{values_one}
 use lib.ListN.{length-map}
 use Rattle.std.specs.List.{AllByRecursion as All}
 use Rattle.std.proofs.lemmas.Fmt.{length-decimal-le}
-use Rattle.std.proofs.lemmas.Bool.{le-leb, lt-leb}
+use Rattle.std.proofs.lemmas.Bool.{le-leb}
+use Rattle.std.proofs.lemmas.Result.{IfOk-at_ok}
 use Rattle.std.proofs.lemmas.Bool.Decides.{nat_tests}
 use Rattle.rows.specs.declared.trip.Trip.{Trip}
 use Rattle.predicates.specs.declared.trip_box.TripBox.{TripBox}
@@ -13,74 +14,27 @@ use Rattle.rows.specs.contracts.trip.Trip.{struct as trip_struct, the_type as tr
 use Rattle.predicates.specs.contracts.interval.Interval.{struct as interval_struct, the_type as interval_type}
 use Rattle.predicates.specs.contracts.trip_box.TripBox.{struct as box_struct, the_type as box_type}
 use Rattle.scripts.specs.declared.fault.Cause.{Cause}
-use Rattle.scripts.specs.declared.fault.Cause.TheVariants.{Form, Row, Predicate, TooLong}
+use Rattle.scripts.specs.declared.fault.Cause.TheVariants.{Row, Predicate}
 use Rattle.scripts.specs.declared.fault.Fault.{Fault}
 use Rattle.scripts.specs.declared.read_error.ReadError.{ReadError}
 use Rattle.scripts.specs.declared.read_error.ReadError.TheVariants.{Fault as Stopped, NoMemory}
 use Rattle.scripts.specs.declared.sections.Sections.{Sections}
-use Rattle.scripts.specs.Scans.{Scan, and_then}
-use Rattle.scripts.specs.Cursors.{ended}
-use Rattle.scripts.specs.Lines.{on_line, Stops, Gives}
-use Rattle.scripts.specs.Sections.{section, trips_and_boxes, finished, reading}
+use Rattle.scripts.specs.Scans.{finished}
+use Rattle.scripts.specs.Lines.{on_line, Gives}
+use Rattle.scripts.specs.Sections.{section, trips_and_boxes, reading}
 use Rattle.scripts.specs.Trips.{trip_numbers, trip_valid}
 use Rattle.scripts.specs.Boxes.{box_numbers, box_valid}
 use Rattle.scripts.specs.Writing.{spaced, written_lines, written_section, written}
 use Rattle.scripts.specs.Wholes.{section_numbers, WritingOf, Accepts}
-use Rattle.scripts.proofs.Decimal.{same_ok, not_both}
-use Rattle.scripts.proofs.Written.{both_steps, Fit, Stands, section_writes, section_back}
-
--- where a part stops, the whole stops with the same fault
-pub stopped : {A B : Type 0} (s : Result (A × List ℕ) Fault) (w : Result (B × List ℕ) Fault) (x : ReadError) → ((e : Fault) → s ≡ Err e → w ≡ Err e) → Stops s x → Stops w x
-stopped s w (Stopped e) k h = k e h
-stopped s w NoMemory k h = tt
-
--- the two sections
-module _ (t u : List ℕ) (ts : List (List ℕ)) (n : ℕ) (trips : section 5 trip_valid Row 512 1 t ≡ Ok (ts, u)) (long : n ≡ length ts) where
-  then_boxes : (r : Result (List (List ℕ) × List ℕ) Fault) → section 8 box_valid Predicate 64 (2 + n) u ≡ r → trips_and_boxes t ≡ and_then r (λ bs v. Ok ((ts, bs), v))
-  then_boxes r e =
-      ap (λ s. and_then s (λ xs v. and_then (section 8 box_valid Predicate 64 (2 + length xs) v) (λ bs w. Ok ((xs, bs), w)))) trips
-      ∙ ap (λ k. and_then (section 8 box_valid Predicate 64 (2 + k) u) (λ bs w. Ok ((ts, bs), w))) (sym long)
-      ∙ ap (λ s. and_then s (λ bs w. Ok ((ts, bs), w))) e
-
-  pub boxes_read : (bs : List (List ℕ)) (v : List ℕ) → section 8 box_valid Predicate 64 (2 + n) u ≡ Ok (bs, v) → trips_and_boxes t ≡ Ok ((ts, bs), v)
-  boxes_read bs v = then_boxes (Ok (bs, v))
-
-  pub boxes_stop : (e : Fault) → section 8 box_valid Predicate 64 (2 + n) u ≡ Err e → trips_and_boxes t ≡ Err e
-  boxes_stop e = then_boxes (Err e)
-
--- the end of the text, by whether it has come
-abbrev end_if : Bool → Scan (Unit {0})
-end_if b = cond b (Ok (tt, [])) (Err Form)
-
-module _ (t : List ℕ) (short : length t ≤ 65536) where
-  within : reading t ≡ and_then (trips_and_boxes t) (λ s u. and_then (on_line ((3 + length s.0) + length s.1) (finished u)) (λ _ v. Ok (s, v)))
-  within = ap (λ b. cond b (and_then (trips_and_boxes t) (λ s u. and_then (on_line ((3 + length s.0) + length s.1) (finished u)) (λ _ v. Ok (s, v)))) (Err (record { line = 1; cause = TooLong }))) (le-leb (length t) 65536 short)
-
-  pub reading_stops : (e : Fault) → trips_and_boxes t ≡ Err e → reading t ≡ Err e
-  reading_stops e h = within ∙ ap (λ r. and_then r (λ s u. and_then (on_line ((3 + length s.0) + length s.1) (finished u)) (λ _ v. Ok (s, v)))) h
-
-  module _ (ts bs : List (List ℕ)) (u : List ℕ) (read : trips_and_boxes t ≡ Ok ((ts, bs), u)) where
-    at_last : (b : Bool) → ended u ≡ b → reading t ≡ and_then (on_line ((3 + length ts) + length bs) (end_if b)) (λ _ v. Ok ((ts, bs), v))
-    at_last b e =
-        within ∙ ap (λ r. and_then r (λ s w. and_then (on_line ((3 + length s.0) + length s.1) (finished w)) (λ _ v. Ok (s, v)))) read
-        ∙ ap (λ x. and_then (on_line ((3 + length ts) + length bs) (end_if x)) (λ _ v. Ok ((ts, bs), v))) e
-
-    pub reading_ends : ended u ≡ true → reading t ≡ Ok ((ts, bs), [])
-    reading_ends e = at_last true e
-
-    pub reading_goes_on : (n m : ℕ) → n ≡ length ts → m ≡ length bs → ended u ≡ false → reading t ≡ Err (record { line = (3 + n) + m; cause = Form })
-    reading_goes_on n m p q e = at_last false e ∙ ap (λ k. Err (record { line = (3 + k) + length bs; cause = Form })) (sym p) ∙ ap (λ k. Err (record { line = (3 + n) + k; cause = Form })) (sym q)
-
-pub reading_too_long : (t : List ℕ) → 65536 < length t → reading t ≡ Err (record { line = 1; cause = TooLong })
-reading_too_long t h = ap (λ b. cond b (and_then (trips_and_boxes t) (λ s u. and_then (on_line ((3 + length s.0) + length s.1) (finished u)) (λ _ v. Ok (s, v)))) (Err (record { line = 1; cause = TooLong }))) (lt-leb (length t) 65536 h)
+use Rattle.scripts.proofs.Passes.{then_ok, cond_ok, line_ok}
+use Rattle.scripts.proofs.Written.{Fit, Stands, section_writes, section_back}
 
 -- what stands for a trip or a box
 trip_stands : (t : Trip) → Stands 5 trip_valid Row (trip_numbers t)
 trip_stands t =
     let limits = t.limits in
     let cells = t.cells in
-    let valid : trip_valid (trip_numbers t) ≡ true = grind (arith, nat_tests) in
-    (refl, valid, (omega arith, (omega arith, (omega arith, (omega arith, (omega arith, tt))))))
+    (refl, grind (arith, nat_tests), search rules)
 
 box_stands : (b : TripBox) → Stands 8 box_valid Predicate (box_numbers b)
 box_stands b =
@@ -89,13 +43,12 @@ box_stands b =
     let day = b.day.ordered in
     let second = b.second.ordered in
     let metres = b.metres.ordered in
-    let valid : box_valid (box_numbers b) ≡ true = grind (arith, nat_tests) in
-    (refl, valid, (omega arith, (omega arith, (omega arith, (omega arith, (omega arith, (omega arith, (omega arith, (omega arith, tt)))))))))
+    (refl, grind (arith, nat_tests), search rules)
 
 spaced_length : (first : Bool) (ns : List ℕ) → Fit ns → length (spaced first ns) ≤ 11 * length ns
 spaced_length first [] f = omega arith
-spaced_length true (n ∷ ns) f = let here = length-decimal-le 10 n (omega arith) (omega arith) (omega arith) in let there = spaced_length false ns f.1 in simp length-append (omega arith)
-spaced_length false (n ∷ ns) f = let here = length-decimal-le 10 n (omega arith) (omega arith) (omega arith) in let there = spaced_length false ns f.1 in simp length-append (omega arith)
+spaced_length true (n ∷ ns) f = simp length-append (omega (arith, length-decimal-le 10 n (omega arith) (omega arith) (omega arith), spaced_length false ns f.1))
+spaced_length false (n ∷ ns) f = simp length-append (omega (arith, length-decimal-le 10 n (omega arith) (omega arith) (omega arith), spaced_length false ns f.1))
 
 module _ {X : Type 0} (numbers : X → List ℕ) (n : ℕ) (valid : List ℕ → Bool) (fault : Cause) (stands : (x : X) → Stands n valid fault (numbers x)) where
   all_stand : (xs : List X) → All (Stands n valid fault) (map numbers xs)
@@ -106,20 +59,13 @@ module _ {X : Type 0} (numbers : X → List ℕ) (n : ℕ) (valid : List ℕ →
   lines_length [] = zero-le
   lines_length (x ∷ xs) =
       let s = stands x in
-      let here = spaced_length true (numbers x) s.2 in
-      let there = lines_length xs in
-      let wide = s.0 in
-      let one = suc-mul (length xs) (11 * n + 1) in
-      simp length-append (omega arith)
+      simp length-append (omega (arith, s.0, spaced_length true (numbers x) s.2, lines_length xs, suc-mul (length xs) (11 * n + 1)))
 
 same_map : {X Y : Type 0} (f : X → Y) → ((x y : X) → f x ≡ f y → x ≡ y) → (xs ys : List X) → map f xs ≡ map f ys → xs ≡ ys
 same_map f one [] [] e = refl
-same_map f one [] (y ∷ ys) e = absurd (let z : ◌≡◌ {A = ℕ} 0 1 = cc in omega arith)
-same_map f one (x ∷ xs) [] e = absurd (let z : ◌≡◌ {A = ℕ} 0 1 = cc in omega arith)
-same_map f one (x ∷ xs) (y ∷ ys) e =
-    let head : f x ≡ f y = cc in
-    let tail : map f xs ≡ map f ys = cc in
-    ap (λ z. z ∷ xs) (one x y head) ∙ ap (λ zs. y ∷ zs) (same_map f one xs ys tail)
+same_map f one [] (y ∷ ys) e = absurd cc
+same_map f one (x ∷ xs) [] e = absurd cc
+same_map f one (x ∷ xs) (y ∷ ys) e = let head = one x y (cc) in let tail = same_map f one xs ys (cc) in cc
 
 -- trips, ranges and boxes are told apart by their numbers
 trip_one : (x y : Trip) → trip_numbers x ≡ trip_numbers y → x ≡ y
@@ -154,77 +100,59 @@ module _ (trips : List Trip) (boxes : List TripBox) (few_trips : length trips �
       let d = length-decimal-le 10 (length (map box_numbers boxes)) (omega arith) (omega arith) (omega arith) in
       simp length-append (omega arith)
 
-  sections_back : trips_and_boxes (written trips boxes) ≡ Ok ((map trip_numbers trips, map box_numbers boxes), [])
-  sections_back =
+  reading_back : reading (written trips boxes) ≡ Ok ((map trip_numbers trips, map box_numbers boxes), [])
+  reading_back =
+      let ts = map trip_numbers trips in
+      let bs = map box_numbers boxes in
       let n = length-map trips trip_numbers in
       let m = length-map boxes box_numbers in
-      let first = section_back 5 trip_valid Row 512 1 (map trip_numbers trips) (written_section (map box_numbers boxes)) (all_stand trip_numbers 5 trip_valid Row trip_stands trips) (omega arith) (omega arith) in
-      let second = section_back 8 box_valid Predicate 64 (2 + length (map trip_numbers trips)) (map box_numbers boxes) [] (all_stand box_numbers 8 box_valid Predicate box_stands boxes) (omega arith) (omega arith) in
-      boxes_read (written trips boxes) (written_section (map box_numbers boxes)) (map trip_numbers trips) (length (map trip_numbers trips)) first refl (map box_numbers boxes) []
-      (ap (section 8 box_valid Predicate 64 (2 + length (map trip_numbers trips))) (sym (append-nil (written_section (map box_numbers boxes)))) ∙ second)
-
-  reading_back : reading (written trips boxes) ≡ Ok ((map trip_numbers trips, map box_numbers boxes), [])
-  reading_back = reading_ends (written trips boxes) written_length (map trip_numbers trips) (map box_numbers boxes) [] sections_back refl
+      let first = section_back 5 trip_valid Row 512 1 ts (written_section bs) (all_stand trip_numbers 5 trip_valid Row trip_stands trips) (omega arith) (omega arith) in
+      let second = section_back 8 box_valid Predicate 64 (2 + length ts) bs [] (all_stand box_numbers 8 box_valid Predicate box_stands boxes) (omega arith) (omega arith) in
+      rw (le-leb (length (written trips boxes)) 65536 written_length, first, ← append-nil (written_section bs), second)
 
 -- what is read, written again, is the text
-record WritesAs (t : List ℕ) (ts bs : List (List ℕ)) : Type 0 where
-  is : t ≡ written_section ts ++ written_section bs
-  few_ts : length ts ≤ 512
-  few_bs : length bs ≤ 64
+abbrev pub WritesAs : List ℕ → List (List ℕ) × List (List ℕ) → Type 0
+WritesAs t s = (t ≡ written_section s.0 ++ written_section s.1) × (length s.0 ≤ 512) × (length s.1 ≤ 64)
 
-ends_empty : (u : List ℕ) (l : ℕ) (v : Unit {0} × List ℕ) → on_line l (finished u) ≡ Ok v → u ≡ []
-ends_empty [] l v e = refl
-ends_empty (b ∷ u) l v e = absurd (not_both e)
+finished_writes : (u : List ℕ) → IfOk (finished u) (λ _. u ≡ [])
+finished_writes [] = refl
+finished_writes (b ∷ u) = tt
 
-sections_write : (t u : List ℕ) (ts bs : List (List ℕ)) → trips_and_boxes t ≡ Ok ((ts, bs), u) → u ≡ [] → WritesAs t ts bs
-sections_write t u ts bs e last =
-    let parts = both_steps (section 5 trip_valid Row 512 1 t) (λ xs v. and_then (section 8 box_valid Predicate 64 (2 + length xs) v) (λ ys w. Ok ((xs, ys), w))) ((ts, bs), u) e in
-    let xs = parts.0.0 in
-    let v = parts.0.1 in
-    let more = both_steps (section 8 box_valid Predicate 64 (2 + length xs) v) (λ ys w. Ok ((xs, ys), w)) ((ts, bs), u) parts.2 in
-    let ys = more.0.0 in
-    let w = more.0.1 in
-    let is : ◌≡◌ {A = (List (List ℕ) × List (List ℕ)) × List ℕ} ((xs, ys), w) ((ts, bs), u) = same_ok more.2 in
-    let first = section_writes 5 trip_valid Row 512 1 t xs v parts.1 in
-    let second = section_writes 8 box_valid Predicate 64 (2 + length xs) v ys w more.1 in
-    let whole : t ≡ written_section xs ++ (written_section ys ++ w) = first.0 ∙ ap (λ x. written_section xs ++ x) second.0 in
-    record {
-      is = whole ∙ ap (λ p. written_section p.0.0 ++ (written_section p.0.1 ++ p.1)) is ∙ ap (λ x. written_section ts ++ (written_section bs ++ x)) last ∙ ap (λ x. written_section ts ++ x) (append-nil (written_section bs));
-      few_ts = subst (λ p. length p.0.0 ≤ 512) is first.1;
-      few_bs = subst (λ p. length p.0.1 ≤ 64) is second.1;
-    }
+sections_write : (t : List ℕ) → IfOk (trips_and_boxes t) (λ v. (t ≡ written_section v.0.0 ++ (written_section v.0.1 ++ v.1)) × (length v.0.0 ≤ 512) × (length v.0.1 ≤ 64))
+sections_write t =
+    then_ok (section 5 trip_valid Row 512 1 t) _ _ _ (section_writes 5 trip_valid Row 512 1 t)
+    (λ v p.
+    then_ok (section 8 box_valid Predicate 64 (2 + length v.0) v.1) _ _ _ (section_writes 8 box_valid Predicate 64 (2 + length v.0) v.1)
+    (λ w q. (p.0 ∙ ap (λ x. written_section v.0 ++ x) q.0, p.1, q.1)))
 
-reading_writes : (t : List ℕ) (ts bs : List (List ℕ)) → reading t ≡ Ok ((ts, bs), []) → WritesAs t ts bs
-reading_writes t ts bs e = by_length (leb (length t) 65536) e
-  where
-    by_length : (b : Bool) → cond b (and_then (trips_and_boxes t) (λ s u. and_then (on_line ((3 + length s.0) + length s.1) (finished u)) (λ _ v. Ok (s, v)))) (Err (record { line = 1; cause = TooLong })) ≡ Ok ((ts, bs), []) → WritesAs t ts bs
-    by_length true h =
-        let parts = both_steps (trips_and_boxes t) (λ s u. and_then (on_line ((3 + length s.0) + length s.1) (finished u)) (λ _ v. Ok (s, v))) ((ts, bs), []) h in
-        let s = parts.0.0 in
-        let u = parts.0.1 in
-        let last = both_steps (on_line ((3 + length s.0) + length s.1) (finished u)) (λ _ v. Ok (s, v)) ((ts, bs), []) parts.2 in
-        let is : ◌≡◌ {A = (List (List ℕ) × List (List ℕ)) × List ℕ} (s, last.0.1) ((ts, bs), []) = same_ok last.2 in
-        sections_write t u ts bs (parts.1 ∙ ap (λ p. Ok (p.0, u)) is) (ends_empty u ((3 + length s.0) + length s.1) last.0 last.1)
-    by_length false h = absurd (not_both h)
+reading_writes : (t : List ℕ) → IfOk (reading t) (λ v. WritesAs t v.0)
+reading_writes t =
+    cond_ok (leb (length t) 65536) _ _ _
+    (λ _.
+    then_ok (trips_and_boxes t) _ _ _ (sections_write t)
+    (λ v p.
+    let line = (3 + length v.0.0) + length v.0.1 in
+    then_ok (on_line line (finished v.1)) _ _ _ (line_ok line (finished v.1) _ (finished_writes v.1))
+    (λ w q. (p.0 ∙ ap (λ x. written_section v.0.0 ++ (written_section v.0.1 ++ x)) q ∙ ap (λ x. written_section v.0.0 ++ x) (append-nil (written_section v.0.1)), p.1, p.2))))
+    (λ _. tt)
 
 -- a text with a fault is the writing of nothing
 pub not_written : (t : List ℕ) (f : Fault) → reading t ≡ Err f → (trips : List Trip) (boxes : List TripBox) → WritingOf t trips boxes → ⊥
-not_written t f e trips boxes x = not_both (sym e ∙ ap reading x.is_written ∙ reading_back trips boxes x.few_trips x.few_boxes)
+not_written t f e trips boxes x = let back = reading_back trips boxes x.few_trips x.few_boxes in let is = x.is_written in cc
 
 -- the law, from the reading
 pub accepts : (t : List ℕ) (r : Result Sections ReadError) → Gives section_numbers (reading t) r [] → Accepts t r
 accepts t (Ok s) e =
     let trips = vec_items s.trips in
     let boxes = vec_items s.boxes in
-    let w = reading_writes t (map trip_numbers trips) (map box_numbers boxes) e in
+    let w = IfOk-at_ok (λ v. WritesAs t v.0) e (reading_writes t) in
     let n = length-map trips trip_numbers in
-    let m = length-map boxes box_numbers in
-    let a = w.few_ts in
-    let b = w.few_bs in (
-      record { few_trips = omega arith; few_boxes = omega arith; is_written = w.is },
+    let m = length-map boxes box_numbers in (
+      record { few_trips = omega arith; few_boxes = omega arith; is_written = w.0 },
       λ xs ys x.
-          let back = ap reading x.is_written ∙ reading_back xs ys x.few_trips x.few_boxes in
-          let same = same_ok (sym back ∙ e) in
+          let back = reading_back xs ys x.few_trips x.few_boxes in
+          let is = x.is_written in
+          let same : ◌≡◌ {A = (List (List ℕ) × List (List ℕ)) × List ℕ} ((map trip_numbers xs, map box_numbers ys), []) (section_numbers s, []) = cc in
           (same_map trip_numbers trip_one xs trips (ap (λ p. p.0.0) same), same_map box_numbers box_one ys boxes (ap (λ p. p.0.1) same)),
     )
 accepts t (Err (Stopped f)) e = not_written t f e

@@ -2,7 +2,6 @@ pub mod Causes
 pub mod Faults
 pub mod Scans
 pub mod Numbers
-pub mod Cursors
 pub mod Trips
 pub mod Boxes
 pub mod Lines

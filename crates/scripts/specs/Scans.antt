@@ -17,6 +17,11 @@ abbrev pub pass : ℕ → List ℕ → Scan (Unit {0})
 pass b [] = Err Form
 pass b (c ∷ t) = cond (c == b) (Ok (tt, t)) (Err Form)
 
+-- nothing may be left
+abbrev pub finished : List ℕ → Scan (Unit {0})
+finished [] = Ok (tt, [])
+finished (b ∷ t) = Err Form
+
 -- what a reader answers is what the step finds, and it leaves the bytes that the step leaves
 abbrev pub Reads : {A : Type 0} → Scan A → Result A Cause → List ℕ → Type 0
 Reads s (Ok v) left = s ≡ Ok (v, left)

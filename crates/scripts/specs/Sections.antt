@@ -1,11 +1,10 @@
 -- The sections of a script, from left to right.
-use Rattle.std.specs.Prelude.{ℕ, ◌+◌, Bool, cond, List, [], length, Ok, Err, Result, nat_le}
+use Rattle.std.specs.Prelude.{ℕ, ◌+◌, Bool, cond, List, length, Ok, Err, Result, nat_le}
 use Rattle.scripts.specs.declared.fault.Cause.{Cause}
-use Rattle.scripts.specs.declared.fault.Cause.TheVariants.{Form, Number, Row, Predicate, TooLong}
+use Rattle.scripts.specs.declared.fault.Cause.TheVariants.{Number, Row, Predicate, TooLong}
 use Rattle.scripts.specs.declared.fault.Fault.{Fault}
-use Rattle.scripts.specs.Scans.{Scan, and_then, pass}
+use Rattle.scripts.specs.Scans.{Scan, and_then, pass, finished}
 use Rattle.scripts.specs.Numbers.{number}
-use Rattle.scripts.specs.Cursors.{ended}
 use Rattle.scripts.specs.Lines.{on_line, items}
 use Rattle.scripts.specs.Trips.{trip_valid}
 use Rattle.scripts.specs.Boxes.{box_valid}
@@ -23,10 +22,6 @@ abbrev pub trips_and_boxes : List ℕ → Result ((List (List ℕ) × List (List
 trips_and_boxes t =
     and_then (section 5 trip_valid Row 512 1 t) (λ trips u.
     and_then (section 8 box_valid Predicate 64 (2 + length trips) u) (λ boxes v. Ok ((trips, boxes), v)))
-
--- nothing may be left
-abbrev pub finished : List ℕ → Scan (Unit {0})
-finished t = cond (ended t) (Ok (tt, [])) (Err Form)
 
 -- a text of at most 65,536 bytes that has the two sections, and nothing after them
 abbrev pub reading : List ℕ → Result ((List (List ℕ) × List (List ℕ)) × List ℕ) Fault

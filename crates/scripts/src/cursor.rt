@@ -1,15 +1,13 @@
-// A place in a text that is read from left to right.
-ghost use Rattle.std.specs.Prelude.{◌≡◌, ℕ, ◌+◌, ◌*◌, ◌<◌, ◌≤◌, ◌∷◌, MatchOption};
-ghost use Rattle.scripts.specs.Scans.{pass, Reads};
+// What is left of a text that is read from left to right.
+ghost use Rattle.std.specs.Prelude.{◌≡◌, ℕ, ◌+◌, ◌*◌, ◌<◌, ◌≤◌, [], ◌∷◌, MatchOption};
+ghost use Rattle.scripts.specs.Scans.{pass, finished, Reads};
 ghost use Rattle.scripts.specs.Numbers.{number, word, NoDigit};
-ghost use Rattle.scripts.specs.Cursors.{rest, ended};
 
 use crate::fault::Cause;
 
 #[derive(Drop)]
 pub(crate) struct Cursor<'a> {
-    text: &'a [u8],
-    at: usize,
+    rest: &'a [u8],
 }
 
 // The number of which `value` has been read and `digit` comes next, if it fits 32 bits.
@@ -21,35 +19,28 @@ fn appended(value: u32, digit: u32) -> Option<u32>
 
 impl<'a> Cursor<'a> {
     pub(crate) fn new(text: &'a [u8]) -> Cursor<'a>
-        ensures { rest result ≡ text.now }
+        ensures { result.rest.now ≡ text.now }
     {
-        Cursor { text, at: 0 }
+        Cursor { rest: text }
     }
 
     // The digit that comes next, which is passed; none where something else does.
     fn digit(&mut self) -> Option<u32>
-        ensures text { self.new.text ≡ self.old.text }
-        ensures read { MatchOption result (NoDigit (rest self.old) × (rest self.new ≡ rest self.old)) (λ d. (d < 10) × (rest self.old ≡ (48 + d) ∷ rest self.new)) }
+        ensures { MatchOption result (NoDigit self.old.rest.now × (self.new.rest.now ≡ self.old.rest.now)) (λ d. (d < 10) × (self.old.rest.now ≡ (48 + d) ∷ self.new.rest.now)) }
     {
-        if self.at >= self.text.len() {
-            return None;
+        match self.rest {
+            [byte @ b'0'..=b'9', rest @ ..] => {
+                self.rest = rest;
+                Some(u32::from(*byte - b'0'))
+            }
+            _ => None,
         }
-        let byte = self.text[self.at];
-        if byte < b'0' || byte > b'9' {
-            return None;
-        }
-        self.at += 1;
-        Some(u32::from(byte - b'0'))
     }
 
     pub(crate) fn number(&mut self) -> Result<u32, Cause>
-        ensures text { self.new.text ≡ self.old.text }
-        ensures read { Reads (number (rest self.old)) result (rest self.new) }
+        ensures { Reads (number self.old.rest.now) result self.new.rest.now }
     {
-        let Some(first) = self.digit() else {
-            return Err(Cause::Form);
-        };
-        let mut value = first;
+        let mut value = self.digit().ok_or(Cause::Form)?;
         while let Some(digit) = self.digit() {
             if value == 0 {
                 return Err(Cause::Form);
@@ -61,20 +52,20 @@ impl<'a> Cursor<'a> {
 
     // The byte that has to come next is passed.
     pub(crate) fn pass(&mut self, byte: u8) -> Result<(), Cause>
-        ensures text { self.new.text ≡ self.old.text }
-        ensures read { Reads (pass byte (rest self.old)) result (rest self.new) }
+        ensures { Reads (pass byte self.old.rest.now) result self.new.rest.now }
     {
-        if self.at >= self.text.len() || self.text[self.at] != byte {
-            return Err(Cause::Form);
+        match self.rest {
+            [next, rest @ ..] if *next == byte => {
+                self.rest = rest;
+                Ok(())
+            }
+            _ => Err(Cause::Form),
         }
-        self.at += 1;
-        Ok(())
     }
 
     // The next number of a line, with the space before it unless it is the first.
     pub(crate) fn word(&mut self, first: bool) -> Result<u32, Cause>
-        ensures text { self.new.text ≡ self.old.text }
-        ensures read { Reads (word first (rest self.old)) result (rest self.new) }
+        ensures { Reads (word first self.old.rest.now) result self.new.rest.now }
     {
         if !first {
             self.pass(b' ')?;
@@ -82,9 +73,13 @@ impl<'a> Cursor<'a> {
         self.number()
     }
 
-    pub(crate) fn is_at_end(&self) -> bool
-        ensures { result ≡ ended (rest self.now) }
+    // Nothing may be left.
+    pub(crate) fn end(&self) -> Result<(), Cause>
+        ensures { Reads (finished self.now.rest.now) result [] }
     {
-        self.at >= self.text.len()
+        match self.rest {
+            [] => Ok(()),
+            _ => Err(Cause::Form),
+        }
     }
 }

@@ -8,28 +8,28 @@ use std::fmt;
 #[derive(Clone, Copy, PartialEq, Eq, Debug)]
 pub enum Cause {
     // A byte that may not stand there, an early end, or bytes left over.
-    Form,
+    Form = 1,
     // A number above 4,294,967,295, or a count above its limit.
-    Number,
+    Number = 2,
     // Numbers that make no row.
-    Row,
+    Row = 3,
     // Numbers that make no predicate.
-    Predicate,
+    Predicate = 4,
     // More than 65,536 bytes.
-    TooLong,
+    TooLong = 5,
 }
 
 impl Cause {
     pub fn number(self) -> u32
         ensures { result ≡ cause_number self }
     {
-        match self {
-            Cause::Form => 1,
-            Cause::Number => 2,
-            Cause::Row => 3,
-            Cause::Predicate => 4,
-            Cause::TooLong => 5,
-        }
+        self as u32
+    }
+
+    pub(crate) fn on_line(self, line: u32) -> Fault
+        ensures { result ≡ record { line = line; cause = self } }
+    {
+        Fault { line, cause: self }
     }
 }
 

@@ -12,7 +12,6 @@ pub mod sections;
 
 #[cfg(test)]
 mod tests {
-    use crate::fault::Fault;
     use crate::read::read_sections;
     use crate::read_error::ReadError;
     use predicates::predicate::Predicate;
@@ -20,18 +19,12 @@ mod tests {
     use std::process::Abort;
     use std::test::Fail;
 
-    fn fault_of(heap: Global, text: &[u8]) -> Option<Fault> {
-        match read_sections(heap, text) {
-            Err(ReadError::Fault(fault)) => Some(fault),
-            _ => None,
-        }
-    }
-
     // The fault of a text, as it is printed.
     fn says(rt: &impl Abort, heap: Global, text: &[u8], said: &str) -> Result<(), Fail> {
-        let fault = fault_of(heap, text).ok_or("no fault")?;
-        let printed = format!(in heap; "{fault}")?;
-        assert!(rt; printed.as_str() == said);
+        let Err(ReadError::Fault(fault)) = read_sections(heap, text) else {
+            return Err(Fail::new("no fault"));
+        };
+        assert_eq!(rt; format!(in heap; "{fault}")?.as_str(), said);
         Ok(())
     }
 
@@ -72,10 +65,9 @@ mod tests {
     #[test]
     fn a_small_script(rt: HostRuntime) -> Result<(), Fail> {
         let text = b"1\n7 100 3600 0 5000\n1\n1 9999 100 100 0 86399 0 2000000\n";
-        let Ok(sections) = read_sections(rt.alloc(), text) else {
-            return Err(Fail::new("not read"));
-        };
-        assert!(rt; sections.trips.len() == 1 && sections.boxes.len() == 1);
+        let sections = read_sections(rt.alloc(), text)?;
+        assert_eq!(rt; sections.trips.len(), 1);
+        assert_eq!(rt; sections.boxes.len(), 1);
         assert_eq!(rt; sections.trips[0].metres(), 5_000);
         assert!(rt; sections.boxes[0].holds(&sections.trips[0]));
         Ok(())

@@ -1,11 +1,11 @@
 // Why a text was not read.
 ghost use Rattle.std.specs.Prelude.{◌≡◌};
-ghost use Rattle.scripts.specs.declared.read_error.ReadError.TheVariants.{NoMemory};
+ghost use Rattle.scripts.specs.declared.read_error.ReadError.TheVariants.{Fault as Stopped, NoMemory};
 
 use crate::fault::Fault;
 use std::alloc::{AllocError, AllocFailed};
 
-#[derive(Drop)]
+#[derive(Debug, Drop)]
 pub enum ReadError {
     // It is not a script.
     Fault(Fault),
@@ -13,10 +13,21 @@ pub enum ReadError {
     NoMemory,
 }
 
+// By hand, as a derive would not say what it gives.
+impl From<Fault> for ReadError {
+    ghost from_gives = { λ f r. r ≡ Stopped f };
+
+    fn from(fault: Fault) -> ReadError {
+        ReadError::Fault(fault)
+    }
+}
+
+// Two impls for want of memory, by hand: std has two errors of it, `AllocFailed` with the value that found no room, and a derive
+// would not say what they give.
 impl From<AllocError> for ReadError {
     ghost from_gives = { λ _ r. r ≡ NoMemory };
 
-    fn from(_error: AllocError) -> ReadError {
+    fn from(_: AllocError) -> ReadError {
         ReadError::NoMemory
     }
 }
@@ -24,7 +35,7 @@ impl From<AllocError> for ReadError {
 impl<T: Drop> From<AllocFailed<T>> for ReadError {
     ghost from_gives = { λ _ r. r ≡ NoMemory };
 
-    fn from(_error: AllocFailed<T>) -> ReadError {
+    fn from(_: AllocFailed<T>) -> ReadError {
         ReadError::NoMemory
     }
 }

@@ -1,3 +1,3 @@
 pub mod Sets
 pub mod Since
-pub mod Walks
+pub mod Drained

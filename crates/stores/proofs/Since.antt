@@ -1,98 +1,69 @@
--- The rows of a set from one of them on, and what the least row and the next greater row tell of them.
-use Rattle.std.proofs.Common.{◌≡◌, Bool, true, ◌||◌, List, [], ◌∷◌, Some, None, filter, Option, Ordering, Less, sym, refl, ap, ◌∙◌}
-use Rattle.std.specs.Ordering.{is_eq, ordering_reverse}
-use Rattle.std.proofs.lemmas.Bool.{and_parts}
+-- The rows of a set from one of them on, and the first that passes a test.
+use Rattle.std.proofs.Common.{◌≡◌, ℕ, Bool, true, List, [], ◌∷◌, Some, None, filter, Option, Ordering, Less, sym, refl, ap, ◌∙◌, ⊎_elim, arith}
+use Rattle.std.specs.List.{find}
+use Rattle.std.specs.Ordering.{is_lt}
+use Rattle.std.specs.Option.{option_map}
+use Rattle.std.proofs.lemmas.Bool.{cases_Bool}
+use Rattle.std.proofs.lemmas.Iterator.Adapters.{option_map_id}
 use Rattle.rows.specs.Orders.{Strict}
-use Rattle.stores.specs.Sets.{by, below, ascends, member, after, first}
-use Rattle.stores.proofs.Sets.{by_order, by_test, is_less, never_both, equal_means, below_less, less_absent, member_head}
+use Rattle.stores.specs.Sets.{below, ascends, first, after, next, rest, since}
+use Rattle.stores.specs.Stores.{Sound}
+use Rattle.stores.proofs.Sets.{below_less}
 
-module _ {R : Type 0} (order : R → R → Ordering) where
-  -- the rows that are not less than r
-  abbrev pub from : R → List R → List R
-  from r [] = []
-  from r (x ∷ xs) = by (order r x) (x ∷ xs) (x ∷ xs) (from r xs)
+module _ {R : Type 0} where
+  find_first : (p : R → Bool) (xs : List R) → find p xs ≡ first (filter p xs)
+  find_first p [] = refl
+  find_first p (x ∷ xs) = let ih = find_first p xs in grind arith
 
-  -- the rows from the given one on, and none where none is given
-  abbrev pub since : Option R → List R → List R
-  since None xs = []
-  since (Some r) xs = from r xs
+  filter_swap : (p q : R → Bool) (xs : List R) → filter p (filter q xs) ≡ filter q (filter p xs)
+  filter_swap p q [] = refl
+  filter_swap p q (x ∷ xs) = let ih = filter_swap p q xs in grind arith
 
-  -- the given row, if one is given, is one of the set
-  abbrev pub Stands : List R → Option R → Type 0
-  Stands xs None = Unit {0}
-  Stands xs (Some r) = member order r xs ≡ true
+module _ {R : Type 0} (order : R → R → Ordering) (p : R → Bool) where
+  rest_kept : (given : Option R) (xs : List R) → filter p (rest order given xs) ≡ rest order given (filter p xs)
+  rest_kept None xs = refl
+  rest_kept (Some r) xs = filter_swap p _ xs
+
+  -- the first of the greater rows that passes is the least of those that pass and are greater
+  pub next_found : (given : Option R) (xs : List R) {found : Option R} → option_map (λ x. x) found ≡ find p (rest order given xs) → found ≡ next order p given xs
+  next_found given xs {found} e = sym (option_map_id found) ∙ e ∙ find_first p (rest order given xs) ∙ ap first (rest_kept given xs)
 
 module _ {R : Type 0} {order : R → R → Ordering} (o : Strict order) where
-  below_member : (r q : R) (xs : List R) → below order r xs ≡ true → member order q xs ≡ true → order r q ≡ Less
-  below_member r q [] h m = cc
-  below_member r q (x ∷ xs) h m =
-      let h' = and_parts _ _ h in
-      by_test (is_eq (order q x))
-      (λ e. ap (order r) (equal_means o q x e) ∙ is_less _ h'.0)
-      (λ e. below_member r q xs h'.1 (ap (λ b. b || member order q xs) (sym e) ∙ m))
+  -- of rows that are all greater than r, all are greater
+  rest_below : (r : R) (xs : List R) → below order r xs ≡ true → rest order (Some r) xs ≡ xs
+  rest_below r [] h = refl
+  rest_below r (x ∷ xs) h = let ih = rest_below r xs in grind arith
 
-  stands_more : (x : R) (xs : List R) (given : Option R) → Stands order xs given → Stands order (x ∷ xs) given
-  stands_more x xs None s = tt
-  stands_more x xs (Some q) s = by_test (is_eq (order q x)) (λ e. rw e refl) (λ e. rw e s)
+  since_first : (xs : List R) → ascends order xs ≡ true → since order (first xs) xs ≡ xs
+  since_first [] a = refl
+  since_first (x ∷ xs) a = let i = o.itself x in let k = rest_below x xs in grind arith
 
-  pub stands_first : (xs : List R) → Stands order xs (first xs)
-  stands_first [] = tt
-  stands_first (x ∷ xs) = member_head o x xs
+  -- what is less than all rows is less than the next greater row, so a walk from there on does not come to it
+  after_above : (x r y : R) (xs : List R) → below order x xs ≡ true → after order r xs ≡ Some y → order x y ≡ Less
+  after_above x r y [] h e = cc
+  after_above x r y (z ∷ xs) h e = let ih = after_above x r y xs in grind arith
 
-  pub stands_after : (r : R) (xs : List R) → Stands order xs (after order r xs)
-  stands_after r [] = tt
-  stands_after r (x ∷ xs) =
-      let ih = stands_more x xs _ (stands_after r xs) in
-      by_order (order r x)
-      (λ e. rw e (member_head o x xs))
-      (λ e. rw e ih)
-      (λ e. rw e ih)
+  since_skip : (x r : R) (xs : List R) (at : Option R) → below order x xs ≡ true → after order r xs ≡ at → since order at (x ∷ xs) ≡ since order at xs
+  since_skip x r xs None h e = refl
+  since_skip x r xs (Some y) h e = let l = after_above x r y xs in let w = o.swapped x y in grind arith
 
-  -- from the least row on there are all rows
-  pub since_first : (xs : List R) → since order (first xs) xs ≡ xs
-  since_first [] = refl
-  since_first (x ∷ xs) = rw (o.itself x) refl
+  -- from the least row that is greater than r on there are all that are greater
+  since_above : (r : R) (xs : List R) → ascends order xs ≡ true → since order (after order r xs) xs ≡ rest order (Some r) xs
+  since_above r [] a = refl
+  since_above r (x ∷ xs) a =
+      ⊎_elim
+      (λ l. let k = below_less o r x xs in rw l (since_first (x ∷ xs) a ∙ ap (λ ys. x ∷ ys) (sym (rest_below r xs (grind arith)))))
+      (λ l. rw l (since_skip x r xs _ (grind arith) refl ∙ since_above r xs (grind arith)))
+      (cases_Bool (is_lt (order r x)))
 
-  -- the least of the rows that are all greater than r
-  after_below : (r : R) (xs : List R) → below order r xs ≡ true → after order r xs ≡ first xs
-  after_below r [] h = refl
-  after_below r (x ∷ xs) h = rw (is_less (order r x) (and_parts _ _ h).0) refl
+  module _ {rows : List R} {places : ℕ} (sound : Sound order rows places) where
+    -- a walk begins at the least row, or at the least that is greater than the given one
+    pub start_first : {given at found : Option R} → given ≡ None → at ≡ found → found ≡ first rows → since order at rows ≡ rest order given rows
+    start_first d e f = rw (d, e, f) (since_first rows sound.up)
 
-  -- a lesser row in front is passed over
-  since_skip : (x : R) (xs : List R) (given : Option R) → below order x xs ≡ true → Stands order xs given → since order given (x ∷ xs) ≡ since order given xs
-  since_skip x xs None h s = refl
-  since_skip x xs (Some q) h s = rw (o.swapped x q ∙ ap ordering_reverse (below_member x q xs h s)) refl
+    pub start_after : {given at found : Option R} {r : R} → given ≡ Some r → at ≡ found → found ≡ after order r rows → since order at rows ≡ rest order given rows
+    start_after {r = r} d e f = rw (d, e, f) (since_above r rows sound.up)
 
-  -- from a row on there is that row, and then those from the next greater row on
-  pub since_step : (r : R) (xs : List R) → ascends order xs ≡ true → member order r xs ≡ true → from order r xs ≡ r ∷ since order (after order r xs) xs
-  since_step r [] a m = cc
-  since_step r (x ∷ xs) a m =
-      let a' = and_parts _ _ a in
-      by_order (order r x)
-      (λ e. never_both m (less_absent o r x xs e a))
-      (λ e.
-      let s = o.same r x e in
-      let f : after order r xs ≡ first xs = ap (λ z. after order z xs) s ∙ after_below x xs a'.0 in
-      let k : since order (first xs) (x ∷ xs) ≡ xs = since_skip x xs (first xs) a'.0 (stands_first xs) ∙ since_first xs in
-      rw (e, f, k, s) refl)
-      (λ e.
-      let m' : member order r xs ≡ true = ap (λ b. b || member order r xs) (sym (ap is_eq e)) ∙ m in
-      let ih = since_step r xs a'.1 m' in
-      let k = since_skip x xs (after order r xs) a'.0 (stands_after r xs) in
-      rw (e, k) ih)
-
-  -- the least row that passes and is greater than r is the first that passes from the next greater row on
-  pub after_kept : (p : R → Bool) (r : R) (xs : List R) → ascends order xs ≡ true → after order r (filter p xs) ≡ first (filter p (since order (after order r xs) xs))
-  after_kept p r [] a = refl
-  after_kept p r (x ∷ xs) a =
-      let a' = and_parts _ _ a in
-      let ih = after_kept p r xs a'.1 in
-      let k = since_skip x xs (after order r xs) a'.0 (stands_after r xs) in
-      by_order (order r x)
-      (λ e. by_test (p x)
-      (λ t. rw (e, t, o.itself x, t) (rw e refl))
-      (λ t.
-      let f = after_below r xs (below_less o r x xs e a'.0) in
-      rw (e, t, o.itself x, t) (ih ∙ ap (λ z. first (filter p (since order z xs))) f ∙ ap (λ z. first (filter p z)) (since_first xs))))
-      (λ e. by_test (p x) (λ t. rw (e, t, k) (rw e ih)) (λ t. rw (e, t, k) ih))
-      (λ e. by_test (p x) (λ t. rw (e, t, k) (rw e ih)) (λ t. rw (e, t, k) ih))
+    -- and goes on to the least that is greater than the row in hand
+    pub step : {at at' : Option R} {r : R} → at ≡ Some r → at' ≡ after order r rows → since order at rows ≡ r ∷ since order at' rows
+    step {r} d e = rw (d, e) (ap (λ ys. r ∷ ys) (sym (since_above r rows sound.up)))

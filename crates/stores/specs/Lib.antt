@@ -1,2 +1,5 @@
 pub mod Sets
 pub mod Stores
+pub mod Walks
+pub mod OnePlaces
+pub mod Few

@@ -40,15 +40,23 @@ module _ {R : Type 0} (order : R → R → Ordering) where
   delete r [] = []
   delete r (x ∷ xs) = by (order r x) (x ∷ xs) xs (x ∷ delete r xs)
 
+  -- the rows that are greater than the given one, if one is given
+  abbrev pub rest : Option R → List R → List R
+  rest None xs = xs
+  rest (Some r) xs = filter (λ x. is_lt (order r x)) xs
+
+  -- the least of them
+  abbrev pub beyond : Option R → List R → Option R
+  beyond given xs = first (rest given xs)
+
   -- the least row that is greater than r
   abbrev pub after : R → List R → Option R
-  after r [] = None
-  after r (x ∷ xs) = by (order r x) (Some x) (after r xs) (after r xs)
+  after r xs = beyond (Some r) xs
 
-  -- the least row that is greater than the given one, if one is given
-  abbrev pub beyond : Option R → List R → Option R
-  beyond None xs = first xs
-  beyond (Some r) xs = after r xs
+  -- the given row, if one is given, and those that are greater
+  abbrev pub since : Option R → List R → List R
+  since None xs = []
+  since (Some r) xs = r ∷ rest (Some r) xs
 
   -- the least row that passes the test and is greater than the given one, if one is given
   abbrev pub next : (R → Bool) → Option R → List R → Option R

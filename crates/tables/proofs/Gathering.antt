@@ -1,74 +1,46 @@
--- One step of gathering holders, and what has been gathered in the end.
-use Rattle.std.proofs.Common.{◌≡◌, ℕ, ◌+◌, ◌<◌, ◌≤◌, Bool, true, false, cond, not, ltb, List, [], ◌∷◌, map, length, get_or, drop, Some, None, Option, sym, refl, ap, ◌∙◌}
-use Rattle.std.proofs.lemmas.List.{at_drop_all}
+-- The smallest holders, where one lock more has been gone through.
+use Rattle.std.proofs.Common.{◌≡◌, ℕ, ◌+◌, ◌<◌, Bool, true, false, cond, not, ltb, List, [], ◌∷◌, ◌++◌, map, length, get_or, take, Some, sym, refl, ap, ◌∙◌}
+use Rattle.std.proofs.lemmas.List.{map-append, append-nil}
+use Rattle.std.proofs.lemmas.List.Elements.{filter-append, filter_more}
 use Rattle.tables.specs.declared.entries.LockEntry.{LockEntry}
 use Rattle.tables.specs.declared.holders.Holders.{Holders}
 use Rattle.tables.specs.Lists.{keep}
-use Rattle.tables.specs.Locks.{barred, least, smallest_of, barred_of}
-use Rattle.tables.specs.Holders.{lesser, noting, gathered, no_holders}
-use Rattle.tables.proofs.Steps.{at_read}
+use Rattle.tables.specs.Locks.{least, smallest_of, barred, barred_of}
+use Rattle.tables.specs.Holders.{lesser, noting}
 
-module _ {P : Type 0} (allows : ℕ → ℕ → ℕ → ℕ → Bool) (c j : ℕ) where
-  module _ (test : LockEntry P → Bool) (xs : List (LockEntry P)) (i : ℕ) (f : Holders) where
-    -- one entry of the table
-    pub gather_step : (e : LockEntry P) (b : Bool) → i < length xs → e ≡ get_or xs i e → test e ≡ b
-        → gathered allows c j (cond b (noting allows c j f e) f) (keep test (drop (i + 1) xs)) ≡ gathered allows c j f (keep test (drop i xs))
-    gather_step e b within read q =
-        sym (at_read (λ ys. gathered allows c j f (keep test ys)) xs i e within read
-        ∙ ap (λ (t : Bool). gathered allows c j f (cond t (e ∷ keep test (drop (i + 1) xs)) (keep test (drop (i + 1) xs)))) q
-        ∙ go b)
+least_push : (n k : ℕ) (ms : List ℕ) → least n (ms ++ (k ∷ [])) ≡ cond (ltb k (least n ms)) k (least n ms)
+least_push n k [] = refl
+least_push n k (m ∷ ms) = go (ltb m n) (least_push m k ms) (least_push n k ms)
+  where
+    go : (b : Bool) → least m (ms ++ (k ∷ [])) ≡ cond (ltb k (least m ms)) k (least m ms) → least n (ms ++ (k ∷ [])) ≡ cond (ltb k (least n ms)) k (least n ms)
+        → cond b (least m (ms ++ (k ∷ []))) (least n (ms ++ (k ∷ []))) ≡ cond (ltb k (cond b (least m ms) (least n ms))) k (cond b (least m ms) (least n ms))
+    go true p q = p
+    go false p q = q
+
+module _ {P : Type 0} where
+  smallest_push : (ls : List (LockEntry P)) (l : LockEntry P) → smallest_of (ls ++ (l ∷ [])) ≡ lesser (smallest_of ls) l.job
+  smallest_push [] l = refl
+  smallest_push (x ∷ ls) l = ap (λ ms. Some (least x.job ms)) (map-append (λ m. m.job) ls (l ∷ [])) ∙ ap (λ n. Some n) (least_push x.job l.job (map (λ m. m.job) ls))
+
+  module _ (allows : ℕ → ℕ → ℕ → ℕ → Bool) (c j : ℕ) where
+    -- the smallest holders of these locks
+    abbrev pub holders_of : List (LockEntry P) → Holders
+    holders_of ls = record { any = smallest_of ls; barred = barred_of allows c j ls }
+
+    noted : (ls : List (LockEntry P)) (l : LockEntry P) → noting allows c j (holders_of ls) l ≡ holders_of (ls ++ (l ∷ []))
+    noted ls l =
+        ap (λ o. record { any = o; barred = cond (allows c j l.class l.job) (barred_of allows c j ls) (lesser (barred_of allows c j ls) l.job) }) (sym (smallest_push ls l))
+        ∙ ap (λ o. record { any = smallest_of (ls ++ (l ∷ [])); barred = o }) (go (allows c j l.class l.job) ∙ sym (ap smallest_of (filter-append (barred allows c j) ls (l ∷ []))))
       where
-        go : (b : Bool) → gathered allows c j f (cond b (e ∷ keep test (drop (i + 1) xs)) (keep test (drop (i + 1) xs))) ≡ gathered allows c j (cond b (noting allows c j f e) f) (keep test (drop (i + 1) xs))
-        go true = refl
-        go false = refl
+        go : (b : Bool) → cond b (barred_of allows c j ls) (lesser (barred_of allows c j ls) l.job) ≡ smallest_of (keep (barred allows c j) ls ++ cond (not b) (l ∷ []) [])
+        go true = sym (ap smallest_of (append-nil (keep (barred allows c j) ls)))
+        go false = sym (smallest_push (keep (barred allows c j) ls) l)
 
-    -- a conflicting entry is noted
-    pub gather_taken : (e : LockEntry P) (h g : Holders) → i < length xs → e ≡ get_or xs i e → test e ≡ true → h ≡ noting allows c j f e
-        → gathered allows c j f (keep test (drop i xs)) ≡ g → gathered allows c j h (keep test (drop (i + 1) xs)) ≡ g
-    gather_taken e h g within read q n so = ap (λ (h : Holders). gathered allows c j h (keep test (drop (i + 1) xs))) n ∙ gather_step e true within read q ∙ so
+    module _ (test : LockEntry P → Bool) (ls : List (LockEntry P)) (i : ℕ) (h : Holders) (l : LockEntry P) (within : i < length ls) (read : l ≡ get_or ls i l) (G : h ≡ holders_of (keep test (take i ls))) where
+      -- one lock more conflicts
+      pub gathered_taken : test l ≡ true → noting allows c j h l ≡ holders_of (keep test (take (i + 1) ls))
+      gathered_taken says = ap (λ h. noting allows c j h l) G ∙ rw (filter_more test ls i l within, ← read, says) (noted (keep test (take i ls)) l)
 
-    -- any other is passed over
-    pub gather_left : (e : LockEntry P) (h g : Holders) → i < length xs → e ≡ get_or xs i e → test e ≡ false → h ≡ f
-        → gathered allows c j f (keep test (drop i xs)) ≡ g → gathered allows c j h (keep test (drop (i + 1) xs)) ≡ g
-    gather_left e h g within read q n so = ap (λ (h : Holders). gathered allows c j h (keep test (drop (i + 1) xs))) n ∙ gather_step e false within read q ∙ so
-
-    pub gather_all : length xs ≤ i → gathered allows c j f (keep test (drop i xs)) ≡ f
-    gather_all h = at_drop_all (λ ys. gathered allows c j f (keep test ys)) xs i h
-
-  from : Option ℕ → List (LockEntry P) → Option ℕ
-  from o [] = o
-  from o (l ∷ ls) = from (lesser o l.job) ls
-
-  from_some : (n : ℕ) (ls : List (LockEntry P)) → from (Some n) ls ≡ Some (least n (map (λ l. l.job) ls))
-  unfolding from
-  from_some n [] = refl
-  from_some n (l ∷ ls) = go (ltb l.job n) (from_some l.job ls) (from_some n ls)
-    where
-      go : (b : Bool) → from (Some l.job) ls ≡ Some (least l.job (map (λ l. l.job) ls)) → from (Some n) ls ≡ Some (least n (map (λ l. l.job) ls)) → from (Some (cond b l.job n)) ls ≡ Some (cond b (least l.job (map (λ l. l.job) ls)) (least n (map (λ l. l.job) ls)))
-      go true p q = p
-      go false p q = q
-
-  from_none : (ls : List (LockEntry P)) → from None ls ≡ smallest_of ls
-  unfolding from
-  from_none [] = refl
-  from_none (l ∷ ls) = from_some l.job ls
-
-  any_from : (f : Holders) (ls : List (LockEntry P)) → (gathered allows c j f ls).any ≡ from f.any ls
-  unfolding from
-  any_from f [] = refl
-  any_from f (l ∷ ls) = any_from (noting allows c j f l) ls
-
-  barred_from : (f : Holders) (ls : List (LockEntry P)) → (gathered allows c j f ls).barred ≡ from f.barred (keep (barred allows c j) ls)
-  unfolding from
-  barred_from f [] = refl
-  barred_from f (l ∷ ls) = barred_from (noting allows c j f l) ls ∙ go (allows c j l.class l.job)
-    where
-      go : (b : Bool) → from (cond b f.barred (lesser f.barred l.job)) (keep (barred allows c j) ls) ≡ from f.barred (cond (not b) (l ∷ keep (barred allows c j) ls) (keep (barred allows c j) ls))
-      go true = refl
-      go false = refl
-
-  pub any_smallest : (ls : List (LockEntry P)) → (gathered allows c j no_holders ls).any ≡ smallest_of ls
-  any_smallest ls = any_from no_holders ls ∙ from_none ls
-
-  pub barred_smallest : (ls : List (LockEntry P)) → (gathered allows c j no_holders ls).barred ≡ barred_of allows c j ls
-  barred_smallest ls = barred_from no_holders ls ∙ from_none (keep (barred allows c j) ls)
+      -- one lock more does not
+      pub gathered_left : test l ≡ false → h ≡ holders_of (keep test (take (i + 1) ls))
+      gathered_left says = G ∙ rw (filter_more test ls i l within, ← read, says, append-nil) refl

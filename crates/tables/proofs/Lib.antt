@@ -1,9 +1,7 @@
 pub mod Lists
-pub mod Steps
 pub mod Moves
 pub mod Locking
-pub mod Gathering
-pub mod Undoing
-pub mod Searching
 pub mod Tabled
 pub mod Sound
+pub mod Gathering
+pub mod Undoing

@@ -1,49 +1,30 @@
--- One step of the search for a lock.
-use Rattle.std.proofs.Common.{◌≡◌, ℕ, ◌+◌, ◌<◌, Bool, true, false, cond, ◌||◌, List, [], ◌∷◌, ◌++◌, length, get_or, take, drop, sym, refl, ap, ◌∙◌, true≢false, append_assoc, arith}
-use Rattle.std.proofs.lemmas.List.{take_more}
+-- A lock that is given up.
+use Rattle.std.proofs.Common.{◌≡◌, ℕ, zero, suc, ◌+◌, Bool, false, true, cond, ◌||◌, List, [], ◌∷◌, ◌++◌, length, get_or, take, drop, ◌<◌, Some, position, refl, sym, ap, ◌∙◌, add-one, arith}
+use Rattle.std.proofs.lemmas.Bool.{cond-true, cond-false, or_parts, true≢false}
+use Rattle.std.proofs.lemmas.List.Quantifiers.{position-Some}
+use Rattle.std.proofs.lemmas.List.Recursion.{or_at}
+use Rattle.std.proofs.lemmas.Option.{none-some}
 use Rattle.tables.specs.declared.entries.LockEntry.{LockEntry}
 use Rattle.tables.specs.Lists.{some_of}
 use Rattle.tables.specs.Locks.{is_lock, release_one}
-use Rattle.tables.specs.Lent.{FoundAt}
-use Rattle.tables.proofs.Steps.{at_read}
 
-module _ {P : Type 0} (j n : ℕ) (ls : List (LockEntry P)) (i : ℕ) (e : LockEntry P) (within : i < length ls) (read : e ≡ get_or ls i e) where
-  some_at : (b : Bool) → b ≡ is_lock j n e → some_of (is_lock j n) (drop i ls) ≡ (b || some_of (is_lock j n) (drop (i + 1) ls))
-  some_at b q = at_read (some_of (is_lock j n)) ls i e within read ∙ ap (λ (b : Bool). b || some_of (is_lock j n) (drop (i + 1) ls)) (sym q)
+module _ {P : Type 0} (j n : ℕ) where
+  -- where there is no such lock, nothing is given up
+  pub no_release : (ls : List (LockEntry P)) → some_of (is_lock j n) ls ≡ false → release_one j n ls ≡ ls
+  no_release [] e = refl
+  no_release (l ∷ ls) e =
+      let k = or_parts (is_lock j n l) (some_of (is_lock j n) ls) e in cond-false (is_lock j n l) ls (l ∷ release_one j n ls) k.0 ∙ ap (λ rest. l ∷ rest) (no_release ls k.1)
 
-  without_at : (b : Bool) → b ≡ is_lock j n e → release_one j n (drop i ls) ≡ cond b (drop (i + 1) ls) (e ∷ release_one j n (drop (i + 1) ls))
-  without_at b q = at_read (release_one j n) ls i e within read ∙ ap (λ (b : Bool). cond b (drop (i + 1) ls) (e ∷ release_one j n (drop (i + 1) ls))) (sym q)
+  first_release : (ls : List (LockEntry P)) (i : ℕ) (d : LockEntry P) → i < length ls → is_lock j n (get_or ls i d) ≡ true → ((k : ℕ) → k < i → is_lock j n (get_or ls k d) ≡ false)
+      → release_one j n ls ≡ take i ls ++ drop (suc i) ls
+  first_release [] i d l t f = absurd (omega arith)
+  first_release (x ∷ ls) zero d l t f = cond-true (is_lock j n x) ls (x ∷ release_one j n ls) t
+  first_release (x ∷ ls) (suc i) d l t f =
+      cond-false (is_lock j n x) ls (x ∷ release_one j n ls) (f 0 (omega arith)) ∙ ap (λ rest. x ∷ rest) (first_release ls i d (omega arith) t (λ k h. f (suc k) (omega arith)))
 
-  pub lock_here : some_of (is_lock j n) (drop i ls) ≡ some_of (is_lock j n) ls → release_one j n ls ≡ take i ls ++ release_one j n (drop i ls) → true ≡ is_lock j n e → FoundAt j n ls i
-  lock_here s r q = record {
-    within = within;
-    there = sym s ∙ some_at true q;
-    without = r ∙ ap (λ (l : List (LockEntry P)). take i ls ++ l) (without_at true q);
-  }
-
-  pub not_here_some : false ≡ is_lock j n e → some_of (is_lock j n) (drop (i + 1) ls) ≡ some_of (is_lock j n) (drop i ls)
-  not_here_some q = sym (some_at false q)
-
-  pub not_here_rest : false ≡ is_lock j n e → take (i + 1) ls ++ release_one j n (drop (i + 1) ls) ≡ take i ls ++ release_one j n (drop i ls)
-  not_here_rest q =
-      ap (λ (l : List (LockEntry P)). l ++ release_one j n (drop (i + 1) ls)) (take_more ls i e within ∙ ap (λ (y : LockEntry P). take i ls ++ (y ∷ [])) (sym read))
-      ∙ append_assoc (take i ls) (e ∷ []) (release_one j n (drop (i + 1) ls))
-      ∙ ap (λ (l : List (LockEntry P)). take i ls ++ l) (sym (without_at false q))
-
--- where there is no such lock, nothing is given up
-pub no_release : {P : Type 0} (j n : ℕ) (ls : List (LockEntry P)) → some_of (is_lock j n) ls ≡ false → release_one j n ls ≡ ls
-no_release j n [] e = refl
-no_release {P} j n (l ∷ ls) e = go (is_lock j n l) e (no_release j n ls)
-  where
-    go : (b : Bool) → (b || some_of (is_lock j n) ls) ≡ false → (some_of (is_lock j n) ls ≡ false → release_one j n ls ≡ ls) → cond b ls (l ∷ release_one j n ls) ≡ l ∷ ls
-    go true q ih = absurd (true≢false q)
-    go false q ih = ap (λ (x : List (LockEntry P)). l ∷ x) (ih q)
-
--- a lock that is given up leaves one fewer
-pub release_length : {P : Type 0} (j n : ℕ) (ls : List (LockEntry P)) → some_of (is_lock j n) ls ≡ true → length (release_one j n ls) + 1 ≡ length ls
-release_length j n [] e = absurd (true≢false (sym e))
-release_length {P} j n (l ∷ ls) e = go (is_lock j n l) e (release_length j n ls)
-  where
-    go : (b : Bool) → (b || some_of (is_lock j n) ls) ≡ true → (some_of (is_lock j n) ls ≡ true → length (release_one j n ls) + 1 ≡ length ls) → length (cond b ls (l ∷ release_one j n ls)) + 1 ≡ length (l ∷ ls)
-    go true q ih = omega arith
-    go false q ih = let k = ih q in omega arith
+  -- the first such lock is given up
+  pub lock_at : (ls : List (LockEntry P)) (i : ℕ) → position (is_lock j n) ls ≡ Some i → (i < length ls) × (some_of (is_lock j n) ls ≡ true) × (release_one j n ls ≡ take i ls ++ drop (i + 1) ls)
+  lock_at [] i e = absurd (none-some i e)
+  lock_at (x ∷ ls) i e =
+      let k = position-Some (is_lock j n) (x ∷ ls) i x e in
+      (k.0, or_at (some_of (is_lock j n)) (is_lock j n) refl (λ _ _. refl) (x ∷ ls) i x k.0 k.1, rw add-one (first_release (x ∷ ls) i x k.0 k.1 k.2))

@@ -1,5 +1,5 @@
 -- The table of open jobs, and what OPEN, TURN and the end of a job make of it.
-use Rattle.std.specs.Prelude.{◌≡◌, ℕ, ◌+◌, Bool, true, false, cond, List, [], ◌∷◌, map, replicate, Some, None, Ok, Err, Option, Result, nat_le}
+use Rattle.std.specs.Prelude.{◌≡◌, ℕ, ◌+◌, Bool, true, false, cond, List, [], ◌∷◌, map, replicate, Some, None, Ok, Err, Option, Result, is_none, nat_le}
 use Rattle.tables.specs.declared.ledger.JobRecord.{JobRecord}
 use Rattle.tables.specs.declared.ledger.Ledger.{Ledger}
 use Rattle.tables.specs.declared.refusal.Refusal.{Refusal}
@@ -50,9 +50,13 @@ find j [] = None
 find j (None ∷ ss) = find j ss
 find j (Some b ∷ ss) = cond (is j b.number) (Some b) (find j ss)
 
+-- the place has the record of the open job of that number
+abbrev pub has_job : ℕ → Option JobRecord → Bool
+has_job j None = false
+has_job j (Some b) = is j b.number
+
 abbrev pub is_free : Option JobRecord → Bool
-is_free None = true
-is_free (Some b) = false
+is_free o = is_none o
 
 -- the first free place taken, the job's record marked, the job's place freed
 abbrev pub fill : JobRecord → List (Option JobRecord) → List (Option JobRecord)

@@ -1,5 +1,5 @@
 -- What functions on a lent list leave in its front.
-use Rattle.std.specs.Prelude.{◌≡◌, ℕ, ◌+◌, ◌-◌, ◌<◌, Bool, true, false, cond, not, List, ◌++◌, length, take, drop, Some, None, Option}
+use Rattle.std.specs.Prelude.{◌≡◌, ℕ, ◌+◌, ◌-◌, Bool, cond, not, List, length, take}
 use Rattle.tables.specs.declared.entries.LockEntry.{LockEntry}
 use Rattle.tables.specs.Lists.{is, keep, some_of}
 use Rattle.tables.specs.Locks.{is_lock, release_one}
@@ -17,16 +17,6 @@ module _ {E : Type 0} (owner : E → ℕ) where
     pub count : r + length (of_job j list) ≡ length list
 
 module _ {P : Type 0} where
-  -- the place of the job's first lock of that number
-  pub record FoundAt (j n : ℕ) (ls : List (LockEntry P)) (i : ℕ) : Type 0 where
-    pub within : i < length ls
-    pub there : some_of (is_lock j n) ls ≡ true
-    pub without : release_one j n ls ≡ take i ls ++ drop (i + 1) ls
-
-  abbrev pub Found : ℕ → ℕ → List (LockEntry P) → Option ℕ → Type 0
-  Found j n ls None = some_of (is_lock j n) ls ≡ false
-  Found j n ls (Some i) = FoundAt j n ls i
-
   -- whether there was such a lock; the list without it is in front
   pub record Released (j n : ℕ) (ls : List (LockEntry P)) (r : Bool) (after : List (LockEntry P)) : Type 0 where
     pub there : r ≡ some_of (is_lock j n) ls

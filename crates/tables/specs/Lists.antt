@@ -1,5 +1,6 @@
 -- Lists: membership, and what is kept of them.
-use Rattle.std.specs.Prelude.{◌≡◌, ℕ, Bool, false, cond, ◌||◌, ◌⊎◌, List, [], ◌∷◌, ◌==◌}
+use Rattle.std.specs.Prelude.{◌≡◌, ℕ, Bool, ◌⊎◌, List, [], ◌∷◌, ◌==◌, filter}
+use Rattle.std.specs.List.{list_any}
 
 -- the two numbers are the same
 unfoldable pub is : ℕ → ℕ → Bool
@@ -13,10 +14,8 @@ module _ {A : Type 0} where
 
   -- the entries that pass the test, in their order
   abbrev pub keep : (A → Bool) → List A → List A
-  keep p [] = []
-  keep p (x ∷ xs) = cond (p x) (x ∷ keep p xs) (keep p xs)
+  keep p xs = filter p xs
 
   -- some entry passes the test
   abbrev pub some_of : (A → Bool) → List A → Bool
-  some_of p [] = false
-  some_of p (x ∷ xs) = p x || some_of p xs
+  some_of p xs = list_any p xs

@@ -1,5 +1,5 @@
 -- The numbers of the refusals, in which the checks of a call run.
-use Rattle.std.specs.Prelude.{ℕ}
+use Rattle.std.specs.Prelude.{ℕ, List, ◌++◌, codes, decimal}
 use Rattle.tables.specs.declared.refusal.Refusal.{Refusal}
 use Rattle.tables.specs.declared.refusal.Refusal.TheVariants.{WrongBook, BadRow, BadPredicate, BadClass, NoSuchJob, HasTurned, NotTurned, NotYourLock, NotCovered, NoPlace, NumbersSpent, BookFull, NotesFull, StoreFull}
 
@@ -18,3 +18,7 @@ refusal_number NumbersSpent = 11
 refusal_number BookFull = 12
 refusal_number NotesFull = 13
 refusal_number StoreFull = 14
+
+-- a refusal as it is printed
+abbrev pub refused_text : Refusal → List ℕ
+refused_text e = codes "refused " ++ decimal (refusal_number e)

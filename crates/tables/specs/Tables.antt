@@ -1,19 +1,28 @@
 -- What keeps the table of open jobs in order.
-use Rattle.std.specs.Prelude.{ℕ, ◌+◌, Bool, true, not, ◌&&◌, List, [], ◌∷◌, is_some, Some, None, Option, nat_lt}
+use Rattle.std.specs.Prelude.{ℕ, ◌+◌, Bool, true, not, ◌&&◌, List, [], ◌∷◌, Some, None, Option, nat_lt}
+use Rattle.std.specs.List.{list_all}
 use Rattle.tables.specs.declared.ledger.JobRecord.{JobRecord}
-use Rattle.tables.specs.Jobs.{find}
+use Rattle.tables.specs.Lists.{some_of}
+use Rattle.tables.specs.Jobs.{has_job}
+
+-- the number at a place stands at none of the others
+abbrev pub is_alone : Option JobRecord → List (Option JobRecord) → Bool
+is_alone None ss = true
+is_alone (Some b) ss = not (some_of (has_job b.number) ss)
 
 -- no number stands twice
 abbrev pub unique : List (Option JobRecord) → Bool
 unique [] = true
-unique (None ∷ ss) = unique ss
-unique (Some b ∷ ss) = not (is_some (find b.number ss)) && unique ss
+unique (o ∷ ss) = is_alone o ss && unique ss
+
+-- the number at a place, if one stands there, is less
+abbrev pub is_below : ℕ → Option JobRecord → Bool
+is_below n None = true
+is_below n (Some b) = nat_lt b.number n
 
 -- every number is less
 abbrev pub all_below : ℕ → List (Option JobRecord) → Bool
-all_below n [] = true
-all_below n (None ∷ ss) = all_below n ss
-all_below n (Some b ∷ ss) = nat_lt b.number n && all_below n ss
+all_below n ss = list_all (is_below n) ss
 
 -- how many open jobs have not turned
 abbrev pub asking_one : Option ℕ → ℕ

@@ -1,5 +1,5 @@
 -- Alterations of the rows of a store, and how they are undone.
-use Rattle.std.specs.Prelude.{ℕ, ◌+◌, List, [], ◌∷◌, map}
+use Rattle.std.specs.Prelude.{ℕ, ◌+◌, Bool, true, false, List, [], ◌∷◌, map}
 use Rattle.std.specs.declared.cmp.Ordering.{Ordering}
 use Rattle.stores.specs.Sets.{delete}
 use Rattle.stores.specs.Stores.{put_rows}
@@ -15,7 +15,13 @@ module _ {R : Type 0} where
   reversed (Removed r) = Added r
   reversed (Changed old new) = Changed new old
 
-  -- 1 for a row that was removed and may return
+  -- whether a row was removed, which may return
+  abbrev pub is_removal : Alteration R → Bool
+  is_removal (Added r) = false
+  is_removal (Removed r) = true
+  is_removal (Changed old new) = false
+
+  -- 1 for such a row
   abbrev pub removal : Alteration R → ℕ
   removal (Added r) = 0
   removal (Removed r) = 1

@@ -35,12 +35,7 @@ impl<P: Predicate> LockEntry<P> {
 pub fn may_read<P: Predicate>(locks: &[LockEntry<P>], job: u32, predicate: &P) -> bool
     ensures { result ≡ some_of (lets_read P.covers job predicate.now) locks.now }
 {
-    for entry in locks {
-        if entry.lets_read(job, predicate) {
-            return true;
-        }
-    }
-    false
+    locks.iter().any(|entry| entry.lets_read(job, predicate))
 }
 
 // Whether one write lock of the job holds all the rows that the alteration names.
@@ -51,10 +46,5 @@ pub fn may_write<P: Predicate>(
 ) -> bool
     ensures { result ≡ some_of (lets_write P.holds job (rows_of alteration)) locks.now }
 {
-    for entry in locks {
-        if entry.lets_write(job, alteration) {
-            return true;
-        }
-    }
-    false
+    locks.iter().any(|entry| entry.lets_write(job, alteration))
 }

@@ -1,8 +1,10 @@
-// Entries of the lent lists: locks that are held, and alterations that can be undone.
+// Entries of the lent lists: locks that are held, and alterations that can be undone. A lock that is wanted is an entry too, with the
+// number that it would get.
 ghost use Rattle.std.specs.Prelude.{◌≡◌, ℕ, ◌||◌};
 ghost use Rattle.tables.specs.Lists.{is};
 ghost use Rattle.tables.specs.Locks.{is_write, is_lock, conflicts};
 
+use policies::wait_policy::Standing;
 use predicates::predicate::Predicate;
 
 #[derive(Clone, Copy, PartialEq, Eq, Debug)]
@@ -36,27 +38,35 @@ pub struct UndoEntry<R> {
     pub alteration: Alteration<R>,
 }
 
-// An entry that belongs to a job.
+// What belongs to a job: an entry of a lent list, or the job's record.
 pub trait OfJob: Copy {
     ghost owner: { Self → ℕ };
 
+    // The number of the job that this belongs to.
+    fn owner(&self) -> u32
+        ensures { result ≡ owner self.now };
+
+    #[tactic(auto, unfolding(crate::specs::Lists::is))]
     fn is_of(&self, job: u32) -> bool
-        ensures { result ≡ is job (owner self.now) };
+        ensures { result ≡ is job (owner self.now) }
+    {
+        job == self.owner()
+    }
 }
 
 impl<P: Copy> OfJob for LockEntry<P> {
     ghost owner = { λ l. l.job };
 
-    fn is_of(&self, job: u32) -> bool {
-        job == self.job
+    fn owner(&self) -> u32 {
+        self.job
     }
 }
 
 impl<R: Copy> OfJob for UndoEntry<R> {
     ghost owner = { λ u. u.job };
 
-    fn is_of(&self, job: u32) -> bool {
-        job == self.job
+    fn owner(&self) -> u32 {
+        self.job
     }
 }
 
@@ -64,37 +74,45 @@ impl Mode {
     pub fn is_write(self) -> bool
         ensures { result ≡ is_write self }
     {
-        match self {
-            Mode::Read => false,
-            Mode::Write => true,
-        }
+        self == Mode::Write
     }
 
     // Whether locks in these modes on one row exclude each other: at least one is for writing.
     pub fn excludes(self, other: Mode) -> bool
         ensures { result ≡ (is_write self || is_write other) }
     {
-        match (self, other) {
-            (Mode::Read, Mode::Read) => false,
-            _ => true,
-        }
+        self.is_write() || other.is_write()
     }
 }
 
 impl<P: Copy> LockEntry<P> {
     // Whether this is the job's lock of that number.
+    #[tactic(auto, unfolding(crate::specs::Lists::is))]
     pub fn is_lock(&self, job: u32, number: u32) -> bool
         ensures { result ≡ is_lock job number self.now }
     {
         self.is_of(job) && number == self.number
     }
+
+    // The job that it is of, as a waiting policy sees it.
+    pub(crate) fn standing(&self) -> Standing
+        ensures { result ≡ record { class = self.now.class; number = self.now.job } }
+    {
+        Standing {
+            class: self.class,
+            number: self.job,
+        }
+    }
 }
 
 impl<P: Predicate> LockEntry<P> {
-    // Whether the request conflicts with this lock: it is of another job and not apart, and one of the two writes.
-    pub fn conflicts_with(&self, job: u32, mode: Mode, predicate: &P) -> bool
-        ensures { result ≡ conflicts P.apart job mode predicate.now self.now }
+    // Whether the lock that is wanted conflicts with this one: this is of another job and not apart, and one of the two
+    // writes.
+    pub fn conflicts_with(&self, wanted: &LockEntry<P>) -> bool
+        ensures { result ≡ conflicts P.apart wanted.now.job wanted.now.mode wanted.now.predicate self.now }
     {
-        !self.is_of(job) && mode.excludes(self.mode) && !self.predicate.apart(predicate)
+        !self.is_of(wanted.job)
+            && wanted.mode.excludes(self.mode)
+            && !self.predicate.apart(&wanted.predicate)
     }
 }

@@ -2,9 +2,9 @@
 ghost use Rattle.std.specs.Prelude.{◌≡◌};
 ghost use Rattle.tables.specs.Lists.{keep};
 ghost use Rattle.tables.specs.Locks.{conflicts, smallest_of, barred_of};
-ghost use Rattle.tables.specs.Holders.{lesser, noting, gathered, no_holders};
+ghost use Rattle.tables.specs.Holders.{lesser, noting};
 
-use crate::entries::{LockEntry, Mode};
+use crate::entries::LockEntry;
 use policies::wait_policy::WaitPolicy;
 use predicates::predicate::Predicate;
 
@@ -18,10 +18,7 @@ pub struct Holders {
 fn lesser(least: Option<u32>, job: u32) -> Option<u32>
     ensures { result ≡ lesser least job }
 {
-    match least {
-        None => Some(job),
-        Some(other) => Some(if job < other { job } else { other }),
-    }
+    Some(least.map_or(job, |other| job.min(other)))
 }
 
 impl Holders {
@@ -29,14 +26,13 @@ impl Holders {
     fn noting<P: Predicate, W: WaitPolicy>(
         self,
         policy: &W,
-        class: u8,
-        job: u32,
+        wanted: &LockEntry<P>,
         entry: &LockEntry<P>,
     ) -> Holders
-        ensures { result ≡ noting W.allows class job self entry.now }
+        ensures { result ≡ noting W.allows wanted.now.class wanted.now.job self entry.now }
     {
         let any = lesser(self.any, entry.job);
-        let barred = if policy.may_wait(class, job, entry.class, entry.job) {
+        let barred = if policy.may_wait(wanted.standing(), entry.standing()) {
             self.barred
         } else {
             lesser(self.barred, entry.job)
@@ -45,25 +41,25 @@ impl Holders {
     }
 }
 
-// The holders of the locks that conflict with the request of that job and class.
+// The holders of the locks that conflict with the lock that is wanted.
 pub fn gather<P: Predicate, W: WaitPolicy>(
     locks: &[LockEntry<P>],
     policy: &W,
-    class: u8,
-    job: u32,
-    mode: Mode,
-    predicate: &P,
+    wanted: &LockEntry<P>,
 ) -> Holders
-    ensures any { result.any ≡ smallest_of (keep (conflicts P.apart job mode predicate.now) locks.now) }
-    ensures barred { result.barred ≡ barred_of W.allows class job (keep (conflicts P.apart job mode predicate.now) locks.now) }
+    ensures any { result.any
+        ≡ smallest_of (keep (conflicts P.apart wanted.now.job wanted.now.mode wanted.now.predicate) locks.now) }
+    ensures barred { result.barred ≡ barred_of W.allows wanted.now.class wanted.now.job
+        (keep (conflicts P.apart wanted.now.job wanted.now.mode wanted.now.predicate) locks.now) }
 {
     let mut holders = Holders {
         any: None,
         barred: None,
     };
+    // The project asks for this form: a loop over the entries with their index, which gathers the holders.
     for (_i, entry) in locks.iter().enumerate() {
-        if entry.conflicts_with(job, mode, predicate) {
-            holders = holders.noting(policy, class, job, entry);
+        if entry.conflicts_with(wanted) {
+            holders = holders.noting(policy, wanted, entry);
         }
     }
     holders

@@ -1,4 +1,5 @@
 // Who is open, and the numbers that come next.
+use crate::entries::OfJob;
 
 // An open job: its number, its class, and its turn number once it has turned.
 #[derive(Clone, Copy)]
@@ -8,7 +9,16 @@ pub struct JobRecord {
     pub turn: Option<u32>,
 }
 
-// Places for the records of open jobs, and the next number of a job, of a lock and of a turn.
+impl OfJob for JobRecord {
+    ghost owner = { λ b. b.number };
+
+    fn owner(&self) -> u32 {
+        self.number
+    }
+}
+
+// Places for the records of open jobs, in an array of a fixed number by a rule of the project, and the next number of a job,
+// of a lock and of a turn.
 #[derive(Clone, Copy)]
 pub struct Ledger {
     pub records: [Option<JobRecord>; 32],

@@ -19,18 +19,9 @@ mod tests {
     use crate::lent::{drop_job, release};
     use crate::refusal::Refusal;
     use policies::class_then_age::ClassThenAge;
-    use predicates::BadPredicate;
-    use predicates::interval::Interval;
     use predicates::trip_box::TripBox;
     use rows::trip::Trip;
     use std::test::Fail;
-
-    fn on_days(low: u32, high: u32) -> Result<TripBox, BadPredicate> {
-        let vans = Interval::new(1, 9_999)?;
-        let seconds = Interval::new(0, 86_399)?;
-        let metres = Interval::new(0, 2_000_000)?;
-        TripBox::new(vans, Interval::new(low, high)?, seconds, metres)
-    }
 
     fn lock(job: u32, class: u8, number: u32, predicate: TripBox) -> LockEntry<TripBox> {
         LockEntry {
@@ -42,21 +33,8 @@ mod tests {
         }
     }
 
-    // The number of the lock at that place, and 0 past the end.
-    fn number_at(locks: &[LockEntry<TripBox>], place: usize) -> u32 {
-        if place < locks.len() {
-            locks[place].number
-        } else {
-            0
-        }
-    }
-
-    // The number of the refusal, and 0 where there is none.
-    fn refused(reply: Result<u32, Refusal>) -> u32 {
-        match reply {
-            Ok(_) => 0,
-            Err(refusal) => refusal.number(),
-        }
+    fn number_at(locks: &[LockEntry<TripBox>], place: usize) -> Option<u32> {
+        locks.get(place).map(|entry| entry.number)
     }
 
     #[test]
@@ -65,9 +43,12 @@ mod tests {
         assert_eq!(rt; table.open(3)?, 1);
         assert_eq!(rt; table.open(0)?, 2);
         assert_eq!(rt; table.turn(2)?, 1);
-        assert_eq!(rt; refused(table.turn(2)), 6);
-        assert_eq!(rt; refused(table.turn(3)), 5);
-        assert_eq!(rt; refused(table.open(8)), 4);
+        assert_eq!(rt; table.turn(2), Err(Refusal::HasTurned));
+        assert_eq!(rt; Refusal::HasTurned.number(), 6);
+        assert_eq!(rt; table.turn(3), Err(Refusal::NoSuchJob));
+        assert_eq!(rt; Refusal::NoSuchJob.number(), 5);
+        assert_eq!(rt; table.open(8), Err(Refusal::BadClass));
+        assert_eq!(rt; Refusal::BadClass.number(), 4);
         table.end(1);
         assert!(rt; table.find(1).is_none());
         assert!(rt; table.find(2).is_some());
@@ -77,7 +58,7 @@ mod tests {
 
     #[test]
     fn release_closes_the_gap(rt: HostRuntime) -> Result<(), Fail> {
-        let day = on_days(100, 100)?;
+        let day = TripBox::on_days(100, 100)?;
         let mut locks = [
             lock(1, 0, 11, day),
             lock(2, 0, 12, day),
@@ -85,37 +66,41 @@ mod tests {
         ];
         assert!(rt; !release(&mut locks, 3, 1, 12));
         assert!(rt; release(&mut locks, 3, 2, 12));
-        assert_eq!(rt; number_at(&locks, 0), 11);
-        assert_eq!(rt; number_at(&locks, 1), 13);
+        assert_eq!(rt; number_at(&locks, 0), Some(11));
+        assert_eq!(rt; number_at(&locks, 1), Some(13));
         Ok(())
     }
 
     #[test]
     fn drop_job_keeps_the_order_of_others(rt: HostRuntime) -> Result<(), Fail> {
-        let day = on_days(100, 100)?;
+        let day = TripBox::on_days(100, 100)?;
         let mut locks = [
             lock(2, 0, 11, day),
             lock(1, 0, 12, day),
             lock(3, 0, 13, day),
         ];
         assert_eq!(rt; drop_job(&mut locks, 3, 1), 2);
-        assert_eq!(rt; number_at(&locks, 0), 11);
-        assert_eq!(rt; number_at(&locks, 1), 13);
+        assert_eq!(rt; number_at(&locks, 0), Some(11));
+        assert_eq!(rt; number_at(&locks, 1), Some(13));
         Ok(())
     }
 
     // Job 5 of class 1 may wait for job 3, but not for the jobs 8 and 7. Job 2 locks another day.
     #[test]
     fn smallest_holders(rt: HostRuntime) -> Result<(), Fail> {
-        let day = on_days(100, 100)?;
-        let other = on_days(101, 101)?;
+        let day = TripBox::on_days(100, 100)?;
+        let other = TripBox::on_days(101, 101)?;
         let locks = [
             lock(8, 0, 1, day),
             lock(2, 0, 2, other),
             lock(7, 0, 3, day),
             lock(3, 2, 4, day),
         ];
-        let holders = gather(&locks, &ClassThenAge, 1, 5, Mode::Read, &day);
+        let wanted = LockEntry {
+            mode: Mode::Read,
+            ..lock(5, 1, 5, day)
+        };
+        let holders = gather(&locks, &ClassThenAge, &wanted);
         assert_eq!(rt; holders.any, Some(3));
         assert_eq!(rt; holders.barred, Some(7));
         Ok(())
@@ -128,12 +113,12 @@ mod tests {
         let new = Trip::new(7, 101, 3_600, 0, 5_000)?;
         let both = Alteration::Changed { old, new };
         let two = [
-            lock(1, 0, 11, on_days(100, 100)?),
-            lock(1, 0, 12, on_days(101, 101)?),
+            lock(1, 0, 11, TripBox::on_days(100, 100)?),
+            lock(1, 0, 12, TripBox::on_days(101, 101)?),
         ];
         assert!(rt; may_write(&two, 1, Alteration::Removed(old)));
         assert!(rt; !may_write(&two, 1, both));
-        let one = [lock(1, 0, 13, on_days(100, 101)?)];
+        let one = [lock(1, 0, 13, TripBox::on_days(100, 101)?)];
         assert!(rt; may_write(&one, 1, both));
         assert!(rt; !may_write(&one, 2, both));
         Ok(())
@@ -141,7 +126,7 @@ mod tests {
 
     #[test]
     fn a_read_lock_lets_only_read(rt: HostRuntime) -> Result<(), Fail> {
-        let day = on_days(100, 100)?;
+        let day = TripBox::on_days(100, 100)?;
         let added = Alteration::Added(Trip::new(7, 100, 3_600, 0, 5_000)?);
         let mut locks = [lock(1, 0, 11, day)];
         assert!(rt; may_write(&locks, 1, added));

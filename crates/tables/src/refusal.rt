@@ -1,65 +1,66 @@
 // Why a call is refused. A refusal alters nothing.
 ghost use Rattle.std.specs.Prelude.{◌≡◌};
-ghost use Rattle.tables.specs.Refusals.{refusal_number};
+ghost use Rattle.std.specs.Prelude.{Some as SomeOf};
+ghost use Rattle.tables.specs.Refusals.{refusal_number, refused_text};
 
 use predicates::BadPredicate;
 use rows::BadRow;
+use std::error::Error;
+use std::fmt;
 
 #[derive(Clone, Copy, PartialEq, Eq, Debug)]
 pub enum Refusal {
     // A lent list has another length than the keeper was made for, or one outside the limits.
-    WrongBook,
+    WrongBook = 1,
     // A row outside its limits.
-    BadRow,
+    BadRow = 2,
     // A range or a set that makes no predicate.
-    BadPredicate,
+    BadPredicate = 3,
     // A class above 7.
-    BadClass,
+    BadClass = 4,
     // Never opened, or ended.
-    NoSuchJob,
+    NoSuchJob = 5,
     // The job has turned, and may not ask for locks or withdraw any more.
-    HasTurned,
+    HasTurned = 6,
     // The job has not turned, and may not release locks yet.
-    NotTurned,
+    NotTurned = 7,
     // The job holds no lock of that number.
-    NotYourLock,
+    NotYourLock = 8,
     // No single lock of the job covers what it asks for.
-    NotCovered,
+    NotCovered = 9,
     // Thirty-two jobs are open.
-    NoPlace,
+    NoPlace = 10,
     // No job number or lock number is left.
-    NumbersSpent,
+    NumbersSpent = 11,
     // The lock table is full.
-    BookFull,
+    BookFull = 12,
     // The undo log is full, and an entry is due.
-    NotesFull,
+    NotesFull = 13,
     // No place of the store is left beside those that removed rows may need again.
-    StoreFull,
+    StoreFull = 14,
 }
 
 impl Refusal {
     pub fn number(self) -> u32
         ensures { result ≡ refusal_number self }
     {
-        match self {
-            Refusal::WrongBook => 1,
-            Refusal::BadRow => 2,
-            Refusal::BadPredicate => 3,
-            Refusal::BadClass => 4,
-            Refusal::NoSuchJob => 5,
-            Refusal::HasTurned => 6,
-            Refusal::NotTurned => 7,
-            Refusal::NotYourLock => 8,
-            Refusal::NotCovered => 9,
-            Refusal::NoPlace => 10,
-            Refusal::NumbersSpent => 11,
-            Refusal::BookFull => 12,
-            Refusal::NotesFull => 13,
-            Refusal::StoreFull => 14,
-        }
+        self as u32
     }
 }
 
+// The word and the number, as a program prints them.
+impl fmt::Display for Refusal {
+    ghost output = { λ e. SomeOf (refused_text e) };
+
+    fn fmt<W: fmt::Write>(&self, f: &mut fmt::Formatter<W>) -> fmt::Result {
+        let number = self.number();
+        write!(f, "refused {number}")
+    }
+}
+
+impl Error for Refusal {}
+
+// By hand, as a derive would not say what they give.
 impl From<BadRow> for Refusal {
     ghost from_gives = { λ _ r. r ≡ BadRow };
 

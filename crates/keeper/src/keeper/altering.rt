@@ -1,4 +1,5 @@
-// Alterations of the rows, with their entries in the undo log.
+// Alterations of the rows, with their entries in the undo log. Each inner function says that the log has the length for which the
+// keeper was made: a struct of the keeper and the log that says so would have to be made anew in every call, and is no plainer.
 ghost use Rattle.std.specs.Prelude.{◌≡◌, true, [], ◌∷◌, length, take};
 ghost use Rattle.calls.specs.Systems.{store_fits};
 ghost use Rattle.keeper.specs.Dealings.{entry_left, LogsEntry, AltersSo};
@@ -28,7 +29,7 @@ impl Keeper {
         alteration: Alteration<S::Row>,
     ) -> bool
         requires { length log.now ≡ self.now.log }
-        ensures { result ≡ store_fits (alteration ∷ []) (take self.now.logged log.now) (S.Store.rows store.now) (S.Store.places store.now) }
+        ensures { result ≡ store_fits (alteration ∷ []) (take self.now.logged log.now) (S.rows store.now) (S.places store.now) }
     {
         match alteration {
             Alteration::Added(_) => {
@@ -66,8 +67,8 @@ impl Keeper {
         alteration: Alteration<S::Row>,
     ) -> Result<(), Refusal>
         requires { length log.old ≡ self.old.log }
-        ensures made { AltersSo S.Row.Row.order asker.number asker.turn alteration self.old log.old (S.Store.rows store.old) (S.Store.places store.old) result self.new log.new (S.Store.rows store.new) }
-        ensures places { S.Store.places store.new ≡ S.Store.places store.old }
+        ensures made { AltersSo S.Row.order asker.number asker.turn alteration self.old log.old (S.rows store.old) (S.places store.old) result self.new log.new (S.rows store.new) }
+        ensures places { S.places store.new ≡ S.places store.old }
     {
         if !self.has_entry(log, asker) {
             return Err(Refusal::NotesFull);

@@ -3,7 +3,8 @@ ghost use Rattle.std.specs.Prelude.{◌≡◌};
 ghost use Rattle.calls.specs.declared.data.DataAnswer.TheVariants.{Next as FoundRow};
 ghost use Rattle.calls.specs.declared.data.DataCall.TheVariants.{Total, Next};
 ghost use Rattle.calls.specs.Kinds.{kinds};
-ghost use Rattle.keeper.specs.Dealings.{said, figures, ask_with, admit_read};
+ghost use Rattle.calls.specs.Runs.{said};
+ghost use Rattle.keeper.specs.Dealings.{figures, ask_with, admit_read};
 
 use crate::keeper::Keeper;
 use predicates::predicate::Predicate;
@@ -15,7 +16,8 @@ use tables::ledger::JobRecord;
 use tables::refusal::Refusal;
 
 impl Keeper {
-    // The job's record; refused unless one lock of the job, in either mode, covers the predicate.
+    // The job's record; refused unless one lock of the job, in either mode, covers the predicate. (`admit_write` says why the two
+    // are not one.)
     fn admit_read<P: Predicate>(
         &self,
         table: &[LockEntry<P>],
@@ -27,9 +29,7 @@ impl Keeper {
         if table.len() != self.table {
             return Err(Refusal::WrongBook);
         }
-        let Some(open) = self.jobs.find(job) else {
-            return Err(Refusal::NoSuchJob);
-        };
+        let open = self.jobs.find(job).ok_or(Refusal::NoSuchJob)?;
         if !may_read(&table[..self.held], job, predicate) {
             return Err(Refusal::NotCovered);
         }
@@ -44,7 +44,7 @@ impl Keeper {
         job: u32,
         predicate: P,
     ) -> Result<(usize, u64), Refusal>
-        ensures { said figures result ≡ ask_with (kinds P.Row.Row.order P.Row.Row.amount P.Predicate.holds P.Predicate.apart P.Predicate.covers) job (Total predicate) self.now table.now (S.Store.rows store.now) (S.Store.places store.now) }
+        ensures { said figures result ≡ ask_with (kinds P.Row.Row.own P.Predicate) job (Total predicate) self.now table.now (S.rows store.now) (S.places store.now) }
     {
         self.admit_read(table, job, &predicate)?;
         Ok(scans::total(store, &predicate))
@@ -59,7 +59,7 @@ impl Keeper {
         predicate: P,
         after: Option<P::Row>,
     ) -> Result<Option<P::Row>, Refusal>
-        ensures { said FoundRow result ≡ ask_with (kinds P.Row.Row.order P.Row.Row.amount P.Predicate.holds P.Predicate.apart P.Predicate.covers) job (Next predicate after) self.now table.now (S.Store.rows store.now) (S.Store.places store.now) }
+        ensures { said FoundRow result ≡ ask_with (kinds P.Row.Row.own P.Predicate) job (Next predicate after) self.now table.now (S.rows store.now) (S.places store.now) }
     {
         self.admit_read(table, job, &predicate)?;
         Ok(scans::next(store, &predicate, after))

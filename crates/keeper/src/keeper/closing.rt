@@ -4,7 +4,6 @@ ghost use Rattle.keeper.specs.Fronts.{LeavesSo, close_with};
 
 use crate::keeper::Keeper;
 use tables::entries::{LockEntry, UndoEntry};
-use tables::lent::drop_job;
 use tables::refusal::Refusal;
 
 impl Keeper {
@@ -21,17 +20,12 @@ impl Keeper {
         if table.len() != self.table || log.len() != self.log {
             return Err(Refusal::WrongBook);
         }
-        let Some(open) = self.jobs.find(job) else {
-            return Err(Refusal::NoSuchJob);
-        };
+        let open = self.jobs.find(job).ok_or(Refusal::NoSuchJob)?;
         let turn = match open.turn {
             Some(turn) => turn,
             None => self.turn(log, job)?,
         };
-        let used = self.held;
-        let rest = drop_job(table, used, job);
-        self.held = rest;
-        self.jobs.end(job);
-        Ok((turn, used - rest))
+        let locks = self.end_job(table, job);
+        Ok((turn, locks))
     }
 }

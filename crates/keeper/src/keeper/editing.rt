@@ -16,7 +16,8 @@ use tables::ledger::JobRecord;
 use tables::refusal::Refusal;
 
 impl Keeper {
-    // The job's record; refused unless one write lock of the job holds all the rows that the alteration names.
+    // The job's record; refused unless one write lock of the job holds all the rows that the alteration names. It is not one
+    // function with `admit_read`: that would take the test as a closure, and its contract would be longer than both of these.
     fn admit_write<P: Predicate>(
         &self,
         table: &[LockEntry<P>],
@@ -29,9 +30,7 @@ impl Keeper {
         if table.len() != self.table || log != self.log {
             return Err(Refusal::WrongBook);
         }
-        let Some(open) = self.jobs.find(job) else {
-            return Err(Refusal::NoSuchJob);
-        };
+        let open = self.jobs.find(job).ok_or(Refusal::NoSuchJob)?;
         if !may_write(&table[..self.held], job, alteration) {
             return Err(Refusal::NotCovered);
         }
@@ -47,7 +46,7 @@ impl Keeper {
         job: u32,
         row: P::Row,
     ) -> Result<EditAnswer, Refusal>
-        ensures { EditsSo (edit_with (kinds P.Row.Row.order P.Row.Row.amount P.Predicate.holds P.Predicate.apart P.Predicate.covers) job (Add row) self.old table.now log.old (S.Store.rows store.old) (S.Store.places store.old)) result self.old self.new table.now log.new (S.Store.rows store.new) (S.Store.places store.new) }
+        ensures { EditsSo (edit_with (kinds P.Row.Row.own P.Predicate) job (Add row) self.old table.now log.old (S.rows store.old) (S.places store.old)) result self.old self.new table.now log.new (S.rows store.new) (S.places store.new) }
     {
         let added = Alteration::Added(row);
         let open = self.admit_write(table, log.len(), job, added)?;
@@ -67,7 +66,7 @@ impl Keeper {
         job: u32,
         row: P::Row,
     ) -> Result<EditAnswer, Refusal>
-        ensures { EditsSo (edit_with (kinds P.Row.Row.order P.Row.Row.amount P.Predicate.holds P.Predicate.apart P.Predicate.covers) job (Drop row) self.old table.now log.old (S.Store.rows store.old) (S.Store.places store.old)) result self.old self.new table.now log.new (S.Store.rows store.new) (S.Store.places store.new) }
+        ensures { EditsSo (edit_with (kinds P.Row.Row.own P.Predicate) job (Drop row) self.old table.now log.old (S.rows store.old) (S.places store.old)) result self.old self.new table.now log.new (S.rows store.new) (S.places store.new) }
     {
         let removed = Alteration::Removed(row);
         let open = self.admit_write(table, log.len(), job, removed)?;
@@ -88,7 +87,7 @@ impl Keeper {
         old: P::Row,
         new: P::Row,
     ) -> Result<EditAnswer, Refusal>
-        ensures { EditsSo (edit_with (kinds P.Row.Row.order P.Row.Row.amount P.Predicate.holds P.Predicate.apart P.Predicate.covers) job (Change old new) self.old table.now log.old (S.Store.rows store.old) (S.Store.places store.old)) result self.old self.new table.now log.new (S.Store.rows store.new) (S.Store.places store.new) }
+        ensures { EditsSo (edit_with (kinds P.Row.Row.own P.Predicate) job (Change old new) self.old table.now log.old (S.rows store.old) (S.places store.old)) result self.old self.new table.now log.new (S.rows store.new) (S.places store.new) }
     {
         let changed = Alteration::Changed { old, new };
         let open = self.admit_write(table, log.len(), job, changed)?;

@@ -3,7 +3,7 @@ ghost use Rattle.std.specs.Prelude.{◌≡◌};
 ghost use Rattle.keeper.specs.Fronts.{LocksSo, held_of, lock_with};
 
 use crate::keeper::Keeper;
-use crate::lock_answer::LockAnswer;
+use calls::lock_answer::LockAnswer;
 use policies::wait_policy::WaitPolicy;
 use predicates::predicate::Predicate;
 use tables::entries::{LockEntry, Mode};
@@ -26,35 +26,30 @@ impl Keeper {
         if table.len() != self.table {
             return Err(Refusal::WrongBook);
         }
-        let Some(open) = self.jobs.find(job) else {
-            return Err(Refusal::NoSuchJob);
-        };
+        let open = self.jobs.find(job).ok_or(Refusal::NoSuchJob)?;
         if open.turn.is_some() {
             return Err(Refusal::HasTurned);
         }
-        let Some(number) = self.jobs.next_lock() else {
-            return Err(Refusal::NumbersSpent);
-        };
+        let number = self.jobs.next_lock().ok_or(Refusal::NumbersSpent)?;
         let used = self.held;
         if used >= table.len() {
             return Err(Refusal::BookFull);
         }
-        let class = open.class;
-        let holders = gather(&table[..used], policy, class, job, mode, &predicate);
+        let wanted = LockEntry {
+            job,
+            class: open.class,
+            number,
+            mode,
+            predicate,
+        };
+        let holders = gather(&table[..used], policy, &wanted);
         if let Some(holder) = holders.barred {
             return Ok(LockAnswer::Withdraw(holder));
         }
         if let Some(holder) = holders.any {
             return Ok(LockAnswer::Wait(holder));
         }
-        let entry = LockEntry {
-            job,
-            class,
-            number,
-            mode,
-            predicate,
-        };
-        append(table, used, entry);
+        append(table, used, wanted);
         self.jobs.use_lock_number();
         self.held = used + 1;
         Ok(LockAnswer::Granted(number))

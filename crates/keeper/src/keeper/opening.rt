@@ -12,7 +12,7 @@ impl Keeper {
     pub fn new(table: usize, log: usize) -> Result<Keeper, Refusal>
         ensures { Made table log result }
     {
-        if table < 1 || table > 1_024 || log < 1 || log > 4_096 {
+        if !(1..=1_024).contains(&table) || !(1..=4_096).contains(&log) {
             return Err(Refusal::WrongBook);
         }
         Ok(Keeper {

@@ -20,9 +20,7 @@ impl Keeper {
         if table.len() != self.table {
             return Err(Refusal::WrongBook);
         }
-        let Some(open) = self.jobs.find(job) else {
-            return Err(Refusal::NoSuchJob);
-        };
+        let open = self.jobs.find(job).ok_or(Refusal::NoSuchJob)?;
         if open.turn.is_none() {
             return Err(Refusal::NotTurned);
         }

@@ -19,24 +19,19 @@ impl Keeper {
         store: &mut S,
         job: u32,
     ) -> Result<(usize, usize), Refusal>
-        ensures { LeavesAll (withdraw_with S.Row.Row.order job self.old table.old log.old (S.Store.rows store.old) (S.Store.places store.old)) result self.old self.new table.new log.new (S.Store.rows store.new) (S.Store.places store.new) }
+        ensures { LeavesAll (withdraw_with S.Row.order job self.old table.old log.old (S.rows store.old) (S.places store.old)) result self.old self.new table.new log.new (S.rows store.new) (S.places store.new) }
     {
         if table.len() != self.table || log.len() != self.log {
             return Err(Refusal::WrongBook);
         }
-        let Some(open) = self.jobs.find(job) else {
-            return Err(Refusal::NoSuchJob);
-        };
+        let open = self.jobs.find(job).ok_or(Refusal::NoSuchJob)?;
         if open.turn.is_some() {
             return Err(Refusal::HasTurned);
         }
         let logged = self.logged;
         let entries = undo_job(store, &log[..logged], job);
         self.logged = drop_job(log, logged, job);
-        let used = self.held;
-        let rest = drop_job(table, used, job);
-        self.held = rest;
-        self.jobs.end(job);
-        Ok((used - rest, entries))
+        let locks = self.end_job(table, job);
+        Ok((locks, entries))
     }
 }

@@ -2,10 +2,9 @@
 ghost use Rattle.std.specs.Prelude.{◌≡◌, Decides};
 ghost use Rattle.predicates.specs.Windows.{meets, window_holds, window_apart, window_covers};
 ghost use Rattle.predicates.specs.WindowMeaning.{ADayInBoth};
-ghost use Rattle.predicates.specs.IntervalsLemmas.{separate_disjoint, encloses_contained};
-ghost use Rattle.predicates.specs.Joint.{joint_disjoint, joint_contained};
-ghost use Rattle.predicates.specs.HireWindowPredicateLemmas.{states_disjoint, states_contained, days_contained};
-ghost use Rattle.std.proofs.Common.{rules, arith};
+ghost use Rattle.predicates.specs.HireWindowPredicateLemmas.{windows_disjoint, windows_contained};
+ghost use Rattle.std.proofs.Common.{arith};
+ghost use Rattle.std.proofs.lemmas.Bool.Decides.{nat_tests};
 
 use super::HireWindow;
 use crate::interval::Interval;
@@ -25,12 +24,13 @@ fn meets(days: &Interval, state: &HireState) -> bool
     }
 }
 
-// Whether some day of the range is a day of the hire: how a window judges days.
+// Whether some day of the range is a day of the hire: how a window judges days. It stands apart from `meets`, as a second promise
+// there, over all days, would cost callers their automatic proof.
+#[tactic(auto, using(crate::proofs::Days::meets_exact))]
 pub fn share_a_day(days: &Interval, hire: &Hire) -> bool
     ensures { Decides result (ADayInBoth days.now hire.now.state) }
 {
-    let state = hire.state();
-    meets(days, &state)
+    meets(days, &hire.state())
 }
 
 impl Predicate for HireWindow {
@@ -42,13 +42,11 @@ impl Predicate for HireWindow {
 
     ghost covers = { window_covers };
 
-    ghost symmetric = { first_of (Prim.search rules, Prim.grind (arith, Self.row.coded.inj)) };
+    ghost symmetric = { Prim.grind (arith, nat_tests) };
 
-    ghost disjoint = { λ p q r. joint_disjoint (separate_disjoint p.van q.van r.van) (states_disjoint p.states q.states p.day q.day r.state) };
+    ghost disjoint = { λ p q r. windows_disjoint p q r.van r.state };
 
-    ghost contained = { λ p q r.
-        joint_contained (encloses_contained p.van q.van r.van)
-        (joint_contained (states_contained p.states q.states r.state) (days_contained p.day q.day r.state)) };
+    ghost contained = { λ p q r. windows_contained p q r.van r.state };
 
     fn holds(&self, row: &Hire) -> bool {
         let state = row.state();

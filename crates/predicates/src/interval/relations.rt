@@ -8,7 +8,7 @@ impl Interval {
     pub fn contains(&self, n: u32) -> bool
         ensures { result ≡ has self.now n }
     {
-        self.low <= n && n <= self.high
+        (self.low..=self.high).contains(&n)
     }
 
     pub fn is_disjoint(&self, other: &Interval) -> bool

@@ -1,5 +1,5 @@
 // A box: the low and the high end of its ranges on van, day, second and metres.
-ghost use Rattle.std.specs.Prelude.{◌≡◌, true, false, MatchResult};
+ghost use Rattle.std.specs.Prelude.{◌≡◌};
 ghost use Rattle.scripts.specs.Boxes.{box_numbers, box_valid};
 ghost use Rattle.scripts.specs.declared.fault.Cause.TheVariants.{Predicate};
 
@@ -9,14 +9,13 @@ use predicates::BadPredicate;
 use predicates::interval::Interval;
 use predicates::trip_box::TripBox;
 
-fn trip_box(words: &[u32; 8]) -> Result<TripBox, BadPredicate>
-    ensures { MatchResult result (λ b. (box_valid words.now ≡ true) × (box_numbers b ≡ words.now)) (λ _. box_valid words.now ≡ false) }
-{
-    let van = Interval::new(words[0], words[1])?;
-    let day = Interval::new(words[2], words[3])?;
-    let second = Interval::new(words[4], words[5])?;
-    let metres = Interval::new(words[6], words[7])?;
-    TripBox::new(van, day, second, metres)
+// By hand, as a derive would not say what it gives.
+impl From<BadPredicate> for Cause {
+    ghost from_gives = { λ _ c. c ≡ Predicate };
+
+    fn from(_: BadPredicate) -> Cause {
+        Cause::Predicate
+    }
 }
 
 impl Item<8> for TripBox {
@@ -27,9 +26,11 @@ impl Item<8> for TripBox {
     ghost fault = { Predicate };
 
     fn make(words: &[u32; 8]) -> Result<TripBox, Cause> {
-        match trip_box(words) {
-            Ok(found) => Ok(found),
-            Err(_) => Err(Cause::Predicate),
-        }
+        // By index: a pattern of eight names takes ten lines.
+        let van = Interval::new(words[0], words[1])?;
+        let day = Interval::new(words[2], words[3])?;
+        let second = Interval::new(words[4], words[5])?;
+        let metres = Interval::new(words[6], words[7])?;
+        Ok(TripBox::new(van, day, second, metres)?)
     }
 }

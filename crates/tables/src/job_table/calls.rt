@@ -3,7 +3,7 @@ ghost use Rattle.std.specs.Prelude.{◌≡◌};
 ghost use Rattle.tables.specs.Jobs.{find, fresh_ledger, Gives, open_on, turn_on, end_ledger, lock_number, grant_ledger};
 
 use super::JobTable;
-use super::places::{free_place, locate};
+use super::places::{free_place, has_job, place_of};
 use crate::ledger::{JobRecord, Ledger};
 use crate::refusal::Refusal;
 
@@ -24,10 +24,12 @@ impl JobTable {
     pub fn find(&self, job: u32) -> Option<JobRecord>
         ensures { result ≡ find job self.now.ledger.records }
     {
-        match locate(&self.ledger.records, job) {
-            Some(open) => Some(open.job),
-            None => None,
-        }
+        let place = self
+            .ledger
+            .records
+            .iter()
+            .find(|place| has_job(place, job))?;
+        *place
     }
 
     // A new job of that class; answers its number.
@@ -37,14 +39,20 @@ impl JobTable {
         if class > 7 {
             return Err(Refusal::BadClass);
         }
-        let Some(place) = free_place(&self.ledger.records) else {
-            return Err(Refusal::NoPlace);
-        };
-        let number = self.ledger.opening;
+        // The ledger is lent first, here and below: a place lent straight from the table gets no proof, for the table has ghost
+        // fields.
+        let ledger = &mut self.ledger;
+        let number = ledger.opening;
+        let place = free_place(&mut ledger.records).ok_or(Refusal::NoPlace)?;
         if number > 1_000_000 {
             return Err(Refusal::NumbersSpent);
         }
-        self.ledger.fill_at(place, class);
+        *place = Some(JobRecord {
+            number,
+            class,
+            turn: None,
+        });
+        ledger.opening = number + 1;
         Ok(number)
     }
 
@@ -52,14 +60,16 @@ impl JobTable {
     pub fn turn(&mut self, job: u32) -> Result<u32, Refusal>
         ensures { Gives (turn_on job self.old.ledger) result self.new.ledger }
     {
-        let Some(open) = locate(&self.ledger.records, job) else {
-            return Err(Refusal::NoSuchJob);
-        };
-        if open.job.turn.is_some() {
+        let ledger = &mut self.ledger;
+        let turn = ledger.turning;
+        let place = place_of(&mut ledger.records, job).ok_or(Refusal::NoSuchJob)?;
+        // What is lent is the place, not the record in it (see `places`).
+        let Some(open) = place else { unreachable!() };
+        if open.turn.is_some() {
             return Err(Refusal::HasTurned);
         }
-        let turn = self.ledger.turning;
-        self.ledger.turn_at(open.at, job);
+        open.turn = Some(turn);
+        ledger.turning = turn + 1;
         Ok(turn)
     }
 
@@ -67,8 +77,9 @@ impl JobTable {
     pub fn end(&mut self, job: u32)
         ensures { self.new.ledger ≡ end_ledger job self.old.ledger }
     {
-        if let Some(open) = locate(&self.ledger.records, job) {
-            self.ledger.end_at(open.at);
+        let ledger = &mut self.ledger;
+        if let Some(place) = place_of(&mut ledger.records, job) {
+            *place = None;
         }
     }
 

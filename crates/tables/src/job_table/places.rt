@@ -1,92 +1,39 @@
-// Places of the table: finding them, and changing one.
-ghost use Rattle.std.specs.Prelude.{◌≡◌, ◌<◌, ◌≤◌};
-ghost use Rattle.tables.specs.Lists.{is};
-ghost use Rattle.tables.specs.Jobs.{turn_slot};
-ghost use Rattle.tables.specs.Places.{Located, FreeAt, filled_at, turned_at, ended_at};
+// Places of the table, lent to be changed. They are lent by index, since no proof was found where a function returns the
+// record in the place (`records[at].as_mut()`, a `match` on the place) or lends by `iter_mut`.
+// `place_of` and `free_place` differ in their test: one function over the test would take a closure, and its contract would be longer
+// than theirs.
+ghost use Rattle.std.specs.Prelude.{◌≡◌, find as list_find};
+ghost use Rattle.std.specs.Option.{option_copied_mut, option_map};
+ghost use Rattle.std.specs.Borrow.{sem};
+ghost use Rattle.tables.specs.Jobs.{find, has_job, is_free};
+ghost use Rattle.tables.specs.Places.{LendsFirst};
 
-use crate::ledger::{JobRecord, Ledger};
+use crate::entries::OfJob;
+use crate::ledger::JobRecord;
 
-// An open job and its place.
-#[derive(Clone, Copy)]
-pub(crate) struct Opened {
-    pub(crate) at: usize,
-    pub(crate) job: JobRecord,
-}
-
-impl JobRecord {
-    fn is_number(&self, number: u32) -> bool
-        ensures { result ≡ is number self.now.number }
-    {
-        number == self.number
-    }
-}
-
-pub(crate) fn locate(records: &[Option<JobRecord>], job: u32) -> Option<Opened>
-    ensures { Located job records.now result }
+pub(crate) fn has_job(place: &Option<JobRecord>, job: u32) -> bool
+    ensures { result ≡ has_job job place.now }
 {
-    for (i, slot) in records.iter().enumerate() {
-        if let Some(open) = *slot {
-            if open.is_number(job) {
-                return Some(Opened { at: i, job: open });
-            }
-        }
-    }
-    None
+    place.is_some_and(|open| open.is_of(job))
 }
 
-pub(crate) fn free_place(records: &[Option<JobRecord>]) -> Option<usize>
-    ensures { FreeAt records.now result }
+// The place of the open job of that number.
+pub(crate) fn place_of(
+    records: &mut [Option<JobRecord>],
+    job: u32,
+) -> Option<&mut Option<JobRecord>>
+    ensures* writes_back { sem 𝓛 (LendsFirst (has_job job) records.entry result) }
+    ensures value { option_copied_mut result ≡ option_map (λ b. Some b) (find job records.old) }
 {
-    for (i, slot) in records.iter().enumerate() {
-        if slot.is_none() {
-            return Some(i);
-        }
-    }
-    None
+    let at = records.iter().position(|place| has_job(place, job))?;
+    Some(&mut records[at])
 }
 
-// Notes the turn in the record of that job.
-fn mark_turned(slot: &mut Option<JobRecord>, job: u32, turn: u32)
-    ensures { slot.new ≡ turn_slot job turn slot.old }
+// The first free place.
+pub(crate) fn free_place(records: &mut [Option<JobRecord>]) -> Option<&mut Option<JobRecord>>
+    ensures* writes_back { sem 𝓛 (LendsFirst is_free records.entry result) }
+    ensures value { option_copied_mut result ≡ list_find is_free records.old }
 {
-    if let Some(open) = *slot {
-        if open.is_number(job) {
-            *slot = Some(JobRecord {
-                number: open.number,
-                class: open.class,
-                turn: Some(turn),
-            });
-        }
-    }
-}
-
-impl Ledger {
-    pub(crate) fn fill_at(&mut self, place: usize, class: u8)
-        requires { (place < 32) × (self.old.opening ≤ 1000000) }
-        ensures { self.new ≡ filled_at place class self.old }
-    {
-        let number = self.opening;
-        self.records[place] = Some(JobRecord {
-            number,
-            class,
-            turn: None,
-        });
-        self.opening = number + 1;
-    }
-
-    pub(crate) fn turn_at(&mut self, place: usize, job: u32)
-        requires { (place < 32) × (self.old.turning ≤ 1000000) }
-        ensures { self.new ≡ turned_at place job self.old }
-    {
-        let turn = self.turning;
-        mark_turned(&mut self.records[place], job, turn);
-        self.turning = turn + 1;
-    }
-
-    pub(crate) fn end_at(&mut self, place: usize)
-        requires { place < 32 }
-        ensures { self.new ≡ ended_at place self.old }
-    {
-        self.records[place] = None;
-    }
+    let at = records.iter().position(Option::is_none)?;
+    Some(&mut records[at])
 }

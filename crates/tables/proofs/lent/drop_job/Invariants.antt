@@ -1,5 +1,7 @@
-use Rattle.tables.proofs.Moves.{Moved}
+use Rattle.std.proofs.Common.{not}
+use Rattle.std.proofs.lemmas.List.Filters.{FiltersInPlace}
+use Rattle.tables.specs.Lists.{is}
 use Rattle.tables.proofs.lent.drop_job.Given as goal
 
 abbrev pub invariant-loop-i : goal.invariant-loop-i
-invariant-loop-i g l = Moved g.E.OfJob.owner l.job l.initial.list l.i l.list l.rest
+invariant-loop-i g l = FiltersInPlace (λ e. not (is l.job (g.E.OfJob.owner e))) l.initial.list l.list l.rest l.i

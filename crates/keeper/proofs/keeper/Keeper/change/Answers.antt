@@ -1,45 +1,34 @@
-use Rattle.std.proofs.Common.{sym, ap, ◌∙◌}
+use Rattle.std.proofs.Common.{refl, ap, ◌∙◌}
 use Rattle.std.specs.Ordering.{is_eq}
-use Rattle.std.proofs.lemmas.Result.{err_from_is_err_and}
-use Rattle.tables.specs.declared.entries.Alteration.TheVariants.{Changed as RowChanged}
+use Rattle.keeper.proofs.Told.{passed_on}
 use Rattle.calls.specs.declared.data.DataCall.TheVariants.{Change}
 use Rattle.calls.specs.declared.data.EditAnswer.TheVariants.{Absent, Changed, Taken}
 use Rattle.calls.specs.Kinds.{kinds}
-use Rattle.keeper.proofs.Dealt.{fitting, edit_refused, edit_idle, edit_full, edit_made, change_absent, change_same, change_taken, change_made}
+use Rattle.keeper.proofs.Dealt.{fitting, edit_refused, edit_idle, edit_full, edit_made}
 use Rattle.keeper.proofs.keeper.Keeper.change.Goals as goal
 
 pub returns-in_err-open : goal.returns-in_err-open
 returns-in_err-open g c =
-    let p = err_from_is_err_and c.from_residual.result c.from_residual.ensures.1 in
-    rw (p.1, p.2) (edit_refused (kinds g.P.Row.Row.order g.P.Row.Row.amount g.P.Predicate.holds g.P.Predicate.apart g.P.Predicate.covers) c.args.job (Change c.args.old c.args.new) c.args.self.now c.args.table.now c.args.log.now (g.S.Store.rows c.args.store.now) (g.S.Store.places c.args.store.now) c.in_err-open.field-0.0 (sym c.in_err-open.ensures))
+    rw (passed_on c.from_residual.ensures.1) (edit_refused (kinds g.P.Row.Row g.P.Predicate) c.args.job (Change c.args.old c.args.new) c.in_err-open.ensures)
 
 pub alter-requires : goal.alter-requires
-alter-requires g c = fitting (kinds g.P.Row.Row.order g.P.Row.Row.amount g.P.Predicate.holds g.P.Predicate.apart g.P.Predicate.covers) c.args.job (Change c.args.old c.args.new) c.args.self.now c.args.table.now c.args.log.now (g.S.Store.rows c.args.store.now) (g.S.Store.places c.args.store.now) c.in_ok-open.open (sym c.in_ok-open.ensures)
+alter-requires g c = fitting (kinds g.P.Row.Row g.P.Predicate) c.args.job (Change c.args.old c.args.new) c.args.self.now c.args.table.now c.args.log.now c.in_ok-open.ensures
 
 pub returns-then-not-has : goal.returns-then-not-has
-returns-then-not-has g c =
-    let d = change_absent (kinds g.P.Row.Row.order g.P.Row.Row.amount g.P.Predicate.holds g.P.Predicate.apart g.P.Predicate.covers) (g.S.Store.rows c.args.store.now) c.args.old c.args.new c.if-not-has.ensures.answer in
-    edit_idle (kinds g.P.Row.Row.order g.P.Row.Row.amount g.P.Predicate.holds g.P.Predicate.apart g.P.Predicate.covers) c.args.job (Change c.args.old c.args.new) c.args.self.now c.args.table.now c.args.log.now (g.S.Store.rows c.args.store.now) (g.S.Store.places c.args.store.now) c.in_ok-open.open (sym c.in_ok-open.ensures) Absent d.0 d.1
+returns-then-not-has g c = edit_idle (kinds g.P.Row.Row g.P.Predicate) c.args.job (Change c.args.old c.args.new) Absent c.in_ok-open.ensures (rw (← c.if-not-has.ensures.answer)) refl
 
 pub returns-then-is_eq : goal.returns-then-is_eq
-returns-then-is_eq g c =
-    let d = change_same (kinds g.P.Row.Row.order g.P.Row.Row.amount g.P.Predicate.holds g.P.Predicate.apart g.P.Predicate.covers) (g.S.Store.rows c.args.store.now) c.args.old c.args.new c.if-not-has.ensures.answer (c.if-is_eq.ensures ∙ ap is_eq c.compare.ensures) in
-    edit_idle (kinds g.P.Row.Row.order g.P.Row.Row.amount g.P.Predicate.holds g.P.Predicate.apart g.P.Predicate.covers) c.args.job (Change c.args.old c.args.new) c.args.self.now c.args.table.now c.args.log.now (g.S.Store.rows c.args.store.now) (g.S.Store.places c.args.store.now) c.in_ok-open.open (sym c.in_ok-open.ensures) Changed d.0 d.1
+returns-then-is_eq g c = edit_idle (kinds g.P.Row.Row g.P.Predicate) c.args.job (Change c.args.old c.args.new) Changed c.in_ok-open.ensures (rw (← c.if-not-has.ensures.answer, ← (c.if-is_eq.ensures ∙ ap is_eq c.compare.ensures))) (rw (← (c.if-is_eq.ensures ∙ ap is_eq c.compare.ensures)))
 
 pub returns-then-has : goal.returns-then-has
-returns-then-has g c =
-    let d = change_taken (kinds g.P.Row.Row.order g.P.Row.Row.amount g.P.Predicate.holds g.P.Predicate.apart g.P.Predicate.covers) (g.S.Store.rows c.args.store.now) c.args.old c.args.new c.if-not-has.ensures.answer (c.if-is_eq.ensures ∙ ap is_eq c.compare.ensures) c.if-has.ensures.answer in
-    edit_idle (kinds g.P.Row.Row.order g.P.Row.Row.amount g.P.Predicate.holds g.P.Predicate.apart g.P.Predicate.covers) c.args.job (Change c.args.old c.args.new) c.args.self.now c.args.table.now c.args.log.now (g.S.Store.rows c.args.store.now) (g.S.Store.places c.args.store.now) c.in_ok-open.open (sym c.in_ok-open.ensures) Taken d.0 d.1
+returns-then-has g c = edit_idle (kinds g.P.Row.Row g.P.Predicate) c.args.job (Change c.args.old c.args.new) Taken c.in_ok-open.ensures (rw (← c.if-not-has.ensures.answer, ← (c.if-is_eq.ensures ∙ ap is_eq c.compare.ensures), ← c.if-has.ensures.answer)) refl
 
 pub returns-in_err-alter : goal.returns-in_err-alter
 returns-in_err-alter g c =
-    let p = err_from_is_err_and c.from_residual-in_err-alter.result c.from_residual-in_err-alter.ensures.1 in
-    let d = change_made (kinds g.P.Row.Row.order g.P.Row.Row.amount g.P.Predicate.holds g.P.Predicate.apart g.P.Predicate.covers) (g.S.Store.rows c.args.store.now) c.args.old c.args.new c.if-not-has.ensures.answer (c.if-is_eq.ensures ∙ ap is_eq c.compare.ensures) c.if-has.ensures.answer in
     let r = c.in_err-alter.ensures in
-    rw (p.1, p.2) (edit_full (kinds g.P.Row.Row.order g.P.Row.Row.amount g.P.Predicate.holds g.P.Predicate.apart g.P.Predicate.covers) c.args.job (Change c.args.old c.args.new) c.args.self.now c.args.table.now c.args.log.now (g.S.Store.rows c.args.store.now) (g.S.Store.places c.args.store.now) c.in_ok-open.open (sym c.in_ok-open.ensures) (RowChanged c.args.old c.args.new) d.1 c.in_err-alter.field-0.0 c.alter.new.self c.alter.new.log (g.S.Store.rows c.alter.new.store) (g.S.Store.places c.alter.new.store) r.made r.places)
+    rw (passed_on c.from_residual-in_err-alter.ensures.1) (edit_full (kinds g.P.Row.Row g.P.Predicate) c.args.job (Change c.args.old c.args.new) Changed c.in_ok-open.ensures (rw (← c.if-not-has.ensures.answer, ← (c.if-is_eq.ensures ∙ ap is_eq c.compare.ensures), ← c.if-has.ensures.answer)) (rw (← (c.if-is_eq.ensures ∙ ap is_eq c.compare.ensures))) r.places r.made)
 
 pub returns : goal.returns
 returns g c =
-    let d = change_made (kinds g.P.Row.Row.order g.P.Row.Row.amount g.P.Predicate.holds g.P.Predicate.apart g.P.Predicate.covers) (g.S.Store.rows c.args.store.now) c.args.old c.args.new c.if-not-has.ensures.answer (c.if-is_eq.ensures ∙ ap is_eq c.compare.ensures) c.if-has.ensures.answer in
     let r = c.in_ok-alter.ensures in
-    edit_made (kinds g.P.Row.Row.order g.P.Row.Row.amount g.P.Predicate.holds g.P.Predicate.apart g.P.Predicate.covers) c.args.job (Change c.args.old c.args.new) c.args.self.now c.args.table.now c.args.log.now (g.S.Store.rows c.args.store.now) (g.S.Store.places c.args.store.now) c.in_ok-open.open (sym c.in_ok-open.ensures) (RowChanged c.args.old c.args.new) d.1 Changed d.0 c.alter.new.self c.alter.new.log (g.S.Store.rows c.alter.new.store) (g.S.Store.places c.alter.new.store) r.made r.places
+    edit_made (kinds g.P.Row.Row g.P.Predicate) c.args.job (Change c.args.old c.args.new) Changed c.in_ok-open.ensures (rw (← c.if-not-has.ensures.answer, ← (c.if-is_eq.ensures ∙ ap is_eq c.compare.ensures), ← c.if-has.ensures.answer)) (rw (← (c.if-is_eq.ensures ∙ ap is_eq c.compare.ensures))) r.places r.made

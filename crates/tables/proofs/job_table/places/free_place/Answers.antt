@@ -1,23 +1,20 @@
-use Rattle.std.proofs.Common.{◌<◌, length, get_or, None, sym, ◌∙◌, arith}
-use Rattle.std.proofs.lemmas.List.{at_drop_all}
+use Rattle.std.proofs.Common.{◌≡◌, position, None, sym, ◌∙◌, rules, tests, refl}
+use Rattle.std.proofs.lemmas.Iterator.{YieldsList-from_slice}
+use Rattle.std.proofs.lemmas.Iterator.Search.{position_from_yields_List}
 use Rattle.tables.specs.Jobs.{is_free}
-use Rattle.tables.specs.Lists.{some_of}
-use Rattle.tables.proofs.Searching.{free_here, taken_some, taken_fill, none_of, some_of_slot}
+use Rattle.tables.proofs.Lists.{none_at, find_none, first_at}
 use Rattle.tables.proofs.job_table.places.free_place.Goals as goal
+use Rattle.tables.proofs.job_table.places.free_place.Goals.{After-position}
 
-pub returns-then-is_none : goal.returns-then-is_none
-returns-then-is_none c =
-    let lt : c.loop-i.i < length c.args.records.now = omega arith in
-    free_here c.args.records.now c.loop-i.i lt (none_of (get_or c.args.records.now c.loop-i.i None) c.if-is_none.ensures) c.loop-i.invariant.0 c.loop-i.invariant.1
-
-pub loop-i-preserved : goal.loop-i-preserved
-loop-i-preserved c =
-    let ss = c.args.records.now in
-    let i = c.loop-i.i in
-    let lt : i < length ss = omega arith in
-    let b = some_of_slot (get_or ss i None) c.if-is_none.ensures in
-    (taken_some ss i lt b.0 b.1 ∙ c.loop-i.invariant.0, λ x. c.loop-i.invariant.1 x ∙ sym (taken_fill ss i lt b.0 x b.1))
+at : (c : After-position) → c.position.result ≡ position is_free c.args.records.now
+at c = position_from_yields_List is_free _ _ c.position.result c.position.ensures.ran (YieldsList-from_slice c.args.records.now cc) (λ x b f k. search (rules, tests))
 
 pub returns : goal.returns
 returns c =
-    sym c.loop-i.invariant.0 ∙ at_drop_all (some_of is_free) c.args.records.now c.loop-i.i (omega arith)
+    let first = first_at is_free c.args.records.now c.in_ok-at.at None (sym (at (goal.at.returns c).After-position) ∙ c.in_ok-at.was) in
+    (rw first.1, record { writes_back = tt; value = sym first.0 })
+
+pub returns-in_err-at : goal.returns-in_err-at
+returns-in_err-at c =
+    let none = none_at is_free c.args.records.now (sym (at (goal.at.returns-in_err-at c).After-position) ∙ c.in_err-at.was) in
+    rw c.from_residual.ensures (refl, record { writes_back = tt; value = sym (find_none is_free c.args.records.now none) })

@@ -1,5 +1,7 @@
-use Rattle.scripts.proofs.Made.{trip_read}
+use Rattle.std.proofs.Common.{arith}
+use Rattle.std.proofs.lemmas.Bool.Decides.{nat_tests}
+use Rattle.std.proofs.lemmas.Grind.{elements}
 use Rattle.scripts.proofs.item.trip_item.TripItem5.make.Goals as goal
 
-pub returns-in-Ok : goal.returns-in-Ok
-returns-in-Ok c = trip_read c.in-Ok.trip c.args.words.now c.told-words c.in-Ok.ensures
+pub returns : goal.returns
+returns c = (grind (arith, nat_tests), grind (arith, elements))
