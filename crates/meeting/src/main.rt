@@ -12,6 +12,7 @@ use tables::entries::{Alteration, LockEntry, Mode, UndoEntry};
 
 // Job 1 is the report, job 2 the upload. The report may wait for the upload, which was opened after it; the upload is
 // told to withdraw where the report is in its way.
+// Of fixed length, as the lists in `main` are; each program has its own calls.
 fn both_jobs(day: TripBox) -> [Entry<TripBox, Trip>; 9] {
     [
         Entry::new(Call::Open { class: 0 }),

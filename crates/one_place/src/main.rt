@@ -17,6 +17,7 @@ fn data(job: u32, call: DataCall<TripBox, Trip>) -> Entry<TripBox, Trip> {
 
 // Job 1 is the report, job 2 the upload. The report may wait for the upload, which was opened after it; the upload is
 // told to withdraw where the report is in its way. So the report's total and its list tell of one state.
+// Of fixed length, as the lists in `main` are; each program has its own calls.
 fn both_jobs(day: TripBox, trip: Trip) -> [Entry<TripBox, Trip>; 14] {
     [
         Entry::new(Call::Open { class: 0 }),

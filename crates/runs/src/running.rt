@@ -1,4 +1,4 @@
-// Runs of a transcript's calls.
+// Runs of a transcript's calls. The lists and the store go along one by one, as the caller lends them: a rule of the project.
 ghost use Rattle.std.specs.Prelude.{◌≡◌};
 ghost use Rattle.calls.specs.Kinds.{kinds};
 ghost use Rattle.runs.specs.Ran.{Ran, Lawful, Began};

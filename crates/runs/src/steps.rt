@@ -1,7 +1,8 @@
 // One call of a transcript. The calls are data, of which the law speaks, so the step is chosen by `match`. Each arm is `Ok` of `?`
 // and not `map`: the check does not follow `map` to an answer whose type names rows, where what is mapped names none. The lists, the
 // store and the policy go along one by one: each call is lent only what it uses, a rule of the project, and a struct of them would
-// lend everything to every call.
+// lend everything to every call. That the lists have the lengths for which the keeper was made is said of both functions: a struct
+// that says so would have to be made anew in every call.
 ghost use Rattle.std.specs.Prelude.{◌≡◌, length};
 ghost use Rattle.calls.specs.Kinds.{kinds};
 ghost use Rattle.runs.specs.Ran.{Steps, DataSteps};
