@@ -9,3 +9,4 @@ pub mod WindowMeaning
 pub mod Boths
 pub mod Examples
 pub mod HireWindowPredicateLemmas
+pub mod Joint

@@ -85,6 +85,11 @@ module _ {R : Type 0} {order : R → R → Ordering} (o : Strict order) where
       let others : xs ≡ ys = same_rows xs ys (grind arith) (grind arith) (λ q. same_tails x xs ys (grind arith) (grind arith) q (let t = h q in grind arith)) in
       cc
 
+  -- taking out a row that is not there changes nothing
+  pub delete_absent : (r : R) (xs : List R) → member order r xs ≡ false → ascends order xs ≡ true → delete order r xs ≡ xs
+  delete_absent r [] n a = refl
+  delete_absent r (x ∷ xs) n a = let ih = delete_absent r xs in grind arith
+
   -- what is put in and taken out again leaves the set as it was, and the other way round
   pub delete_inserted : (r : R) (xs : List R) → member order r xs ≡ false → ascends order xs ≡ true → delete order r (insert order r xs) ≡ xs
   delete_inserted r [] n a = let s = o.itself r in grind arith
