@@ -6,7 +6,7 @@ use Rattle.std.specs.Option.{option_map}
 use Rattle.std.proofs.lemmas.Bool.{cases_Bool}
 use Rattle.std.proofs.lemmas.Iterator.Adapters.{option_map_id}
 use Rattle.rows.specs.Orders.{Strict}
-use Rattle.stores.specs.Sets.{below, ascends, first, after, next, rest, since}
+use Rattle.stores.specs.Sets.{below, ascends, first, after, beyond, next, rest, since}
 use Rattle.stores.specs.Stores.{Sound}
 use Rattle.stores.proofs.Sets.{below_less}
 
@@ -57,13 +57,11 @@ module _ {R : Type 0} {order : R → R → Ordering} (o : Strict order) where
       (cases_Bool (is_lt (order r x)))
 
   module _ {rows : List R} {places : ℕ} (sound : Sound order rows places) where
-    -- a walk begins at the least row, or at the least that is greater than the given one
-    pub start_first : {given at found : Option R} → given ≡ None → at ≡ found → found ≡ first rows → since order at rows ≡ rest order given rows
-    start_first d e f = rw (d, e, f) (since_first rows sound.up)
+    -- a walk goes on to the least row, or to the least that is greater than the given one
+    pub from_least : (given : Option R) → since order (beyond order given rows) rows ≡ rest order given rows
+    from_least None = since_first rows sound.up
+    from_least (Some r) = since_above r rows sound.up
 
-    pub start_after : {given at found : Option R} {r : R} → given ≡ Some r → at ≡ found → found ≡ after order r rows → since order at rows ≡ rest order given rows
-    start_after {r = r} d e f = rw (d, e, f) (since_above r rows sound.up)
-
-    -- and goes on to the least that is greater than the row in hand
-    pub step : {at at' : Option R} {r : R} → at ≡ Some r → at' ≡ after order r rows → since order at rows ≡ r ∷ since order at' rows
-    step {r} d e = rw (d, e) (ap (λ ys. r ∷ ys) (sym (since_above r rows sound.up)))
+    -- the greater ones are left
+    pub step : (given : Option R) {found : Option R} {r : R} → found ≡ beyond order given rows → found ≡ Some r → rest order given rows ≡ r ∷ rest order (Some r) rows
+    step given e d = sym (from_least given) ∙ ap (λ f. since order f rows) (sym e ∙ d)

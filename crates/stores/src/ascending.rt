@@ -1,18 +1,19 @@
 // A walk over the rows of a store, ascending.
 ghost use Rattle.std.specs.Prelude.{◌≡◌};
 ghost use Rattle.std.specs.Iterator.{YieldsFirst, item_count};
-ghost use Rattle.stores.specs.Few.{since_few};
-ghost use Rattle.stores.specs.Sets.{rest};
+ghost use Rattle.stores.specs.Few.{rest_few};
+ghost use Rattle.stores.specs.Sets.{beyond, rest};
 ghost use Rattle.stores.specs.Walks.{left};
 
 use crate::few_rows::FewRows;
 use crate::store::Store;
 
-// The row that comes next, if any is left; the greater ones come after it.
+// The row that was given last, or that the walk begins behind; the greater ones are left. The store is asked for a row only where
+// one is asked of the walk.
 #[derive(Drop)]
 pub struct Ascending<'a, S: Store> {
     store: &'a S,
-    at: Option<S::Row>,
+    last: Option<S::Row>,
 }
 
 impl<'a, S: Store> Ascending<'a, S> {
@@ -20,11 +21,17 @@ impl<'a, S: Store> Ascending<'a, S> {
     pub fn beyond(store: &'a S, given: Option<S::Row>) -> Ascending<'a, S>
         ensures { left S.Row.order S.rows result ≡ rest S.Row.order given (S.rows store.now) }
     {
-        let at = match given {
-            Some(row) => store.after(&row),
-            None => store.first(),
-        };
-        Ascending { store, at }
+        Ascending { store, last: given }
+    }
+
+    // The least of the rows that are left.
+    fn following(&self) -> Option<S::Row>
+        ensures { result ≡ beyond S.Row.order self.now.last (S.rows self.now.store.now) }
+    {
+        match self.last {
+            Some(row) => self.store.after(&row),
+            None => self.store.first(),
+        }
     }
 }
 
@@ -36,8 +43,8 @@ impl<'a, S: Store> Iterator for Ascending<'a, S> {
     ghost remaining = { item_count (left S.Row.order S.rows) };
 
     fn next(&mut self) -> Option<S::Row> {
-        let row = self.at?;
-        self.at = self.store.after(&row);
+        let row = self.following()?;
+        self.last = Some(row);
         Some(row)
     }
 }
@@ -45,5 +52,5 @@ impl<'a, S: Store> Iterator for Ascending<'a, S> {
 impl<'a, S: Store> FewRows for Ascending<'a, S> {
     ghost ready = { λ s. tt };
 
-    ghost few = { λ s. (tt, since_few s.at (S.sound s.store.now)) };
+    ghost few = { λ s. (tt, rest_few s.last (S.sound s.store.now)) };
 }
