@@ -42,21 +42,26 @@ pub struct UndoEntry<R> {
 pub trait OfJob: Copy {
     ghost owner: { Self → ℕ };
 
-    // The number of the job that this belongs to.
-    fn owner(&self) -> u32
-        ensures { result ≡ owner self.now };
-
-    #[tactic(auto, unfolding(crate::specs::Lists::is))]
     fn is_of(&self, job: u32) -> bool
-        ensures { result ≡ is job (owner self.now) }
-    {
-        job == self.owner()
-    }
+        ensures { result ≡ is job (owner self.now) };
+}
+
+// What tells the number of the job that it belongs to. It stands apart from `OfJob`, which asks only for the test.
+pub trait Owned: OfJob {
+    fn owner(&self) -> u32
+        ensures { result ≡ Self.owner self.now };
 }
 
 impl<P: Copy> OfJob for LockEntry<P> {
     ghost owner = { λ l. l.job };
 
+    #[tactic(auto, unfolding(crate::specs::Lists::is))]
+    fn is_of(&self, job: u32) -> bool {
+        job == self.job
+    }
+}
+
+impl<P: Copy> Owned for LockEntry<P> {
     fn owner(&self) -> u32 {
         self.job
     }
@@ -65,6 +70,13 @@ impl<P: Copy> OfJob for LockEntry<P> {
 impl<R: Copy> OfJob for UndoEntry<R> {
     ghost owner = { λ u. u.job };
 
+    #[tactic(auto, unfolding(crate::specs::Lists::is))]
+    fn is_of(&self, job: u32) -> bool {
+        job == self.job
+    }
+}
+
+impl<R: Copy> Owned for UndoEntry<R> {
     fn owner(&self) -> u32 {
         self.job
     }

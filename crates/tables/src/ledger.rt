@@ -1,5 +1,5 @@
 // Who is open, and the numbers that come next.
-use crate::entries::OfJob;
+use crate::entries::{OfJob, Owned};
 
 // An open job: its number, its class, and its turn number once it has turned.
 #[derive(Clone, Copy)]
@@ -12,6 +12,13 @@ pub struct JobRecord {
 impl OfJob for JobRecord {
     ghost owner = { λ b. b.number };
 
+    #[tactic(auto, unfolding(crate::specs::Lists::is))]
+    fn is_of(&self, job: u32) -> bool {
+        job == self.owner()
+    }
+}
+
+impl Owned for JobRecord {
     fn owner(&self) -> u32 {
         self.number
     }
