@@ -1,2 +1,9 @@
 pub mod Fronts
 pub mod Dealings
+pub mod Runs
+pub mod Serial
+pub mod Ran
+pub mod Shown
+pub mod Examples
+pub use Rattle.calls.specs.States
+pub use Rattle.calls.specs.Orders

@@ -1,5 +1,5 @@
 // Worked examples of what is apart, proved of the definitions. The function does nothing: its contract
-// carries them. Two crates have one, since a crate sees only its own examples and those of the crates below it.
+// carries them. Three crates have one, since a crate sees only its own examples and those of the crates below it.
 ghost use Rattle.predicates.specs.Examples.{Examples};
 
 #[tactic(auto, using(crate::proofs::Worked::examples))]

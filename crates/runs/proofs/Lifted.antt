@@ -1,5 +1,4 @@
--- Each call of a run does what its definition says of keeper, both lists and store together. Calls that are lent only one of the
--- lists do the same where the other one stands beside it.
+-- Each call of a run does what its definition says of keeper, both lists and store together.
 use Rattle.std.proofs.Common.{arith, ◌≡◌, ℕ, Bool, eqb, List, [], length, take, Option, ap, ◌∙◌, append-nil}
 use Rattle.std.proofs.lemmas.Bool.{eq-eqb}
 use Rattle.tables.specs.declared.entries.LockEntry.{LockEntry}
@@ -18,71 +17,31 @@ use Rattle.calls.specs.declared.transcript.Call.{Call}
 use Rattle.calls.specs.declared.transcript.Call.TheVariants.{Lock, Turn, Release}
 use Rattle.calls.specs.Kinds.{Kinds}
 use Rattle.calls.specs.Plain.{found, effect}
-use Rattle.calls.specs.States.{State, lock_call, turn_call, release_call}
-use Rattle.calls.specs.Systems.{System, permits, with_state, data_call}
+use Rattle.calls.specs.States.{State}
+use Rattle.calls.specs.Systems.{System, permits, data_call}
 use Rattle.calls.specs.Runs.{said}
 use Rattle.keeper.specs.declared.keeper.Keeper.{Keeper}
-use Rattle.keeper.specs.Fronts.{locks_front, log_front, LocksSo, LogsSo, lock_with, turn_with, release_with}
+use Rattle.keeper.specs.Fronts.{LocksSo, LogsSo, lock_with, turn_with, release_with}
 use Rattle.keeper.specs.Dealings.{system, ask_with}
 use Rattle.keeper.proofs.Told.{passes}
 use Rattle.keeper.proofs.Dealt.{none_due}
+use Rattle.keeper.proofs.Beside.{lock_whole, release_whole, turn_whole}
 use Rattle.runs.specs.Ran.{Steps, DataSteps}
 
--- the same outcome, seen through f
-abbrev through : {S T A : Type 0} → (S → T) → Outcome S A → Outcome T A
-through f o = record { reply = o.reply; state = f o.state }
-
-module _ {P R : Type 0} (σ : State P R) where
-  -- with another undo log beside it
-  module _ {R' : Type 0} (us : List (UndoEntry R')) where
-    abbrev pub beside : State P R → State P R'
-    beside τ = record { ledger = τ.ledger; locks = τ.locks; undo = us; table = τ.table; log = τ.log }
-
-    lock_beside : (apart : P → P → Bool) (allows : ℕ → ℕ → ℕ → ℕ → Bool) (j : ℕ) (w : Mode) (p : P) → lock_call apart allows j w p (beside σ) ≡ through beside (lock_call apart allows j w p σ)
-    lock_beside apart allows j w p = grind arith
-
-    release_beside : (j n : ℕ) → release_call j n (beside σ) ≡ through beside (release_call j n σ)
-    release_beside j n = grind arith
-
-  -- with another lock table beside it
-  module _ {P' : Type 0} (ls : List (LockEntry P')) where
-    abbrev pub apart_from : State P R → State P' R
-    apart_from τ = record { ledger = τ.ledger; locks = ls; undo = τ.undo; table = τ.table; log = τ.log }
-
-    turn_apart : (j : ℕ) → turn_call j (apart_from σ) ≡ through apart_from (turn_call j σ)
-    turn_apart j = grind arith
+-- beside the store, which most calls leave alone
+abbrev beside : {P R : Type 0} → List R → ℕ → State P R → System P R
+beside rows places σ = record { state = σ; rows = rows; places = places }
 
 -- the steps of a run, from what each call promises
 module _ {P R : Type 0} {K : Kinds P R} {allows : ℕ → ℕ → ℕ → ℕ → Bool} {k k' : Keeper} {table : List (LockEntry P)} {log : List (UndoEntry R)} {rows : List R} {places : ℕ} {call : Call P R} {a : Reply (Answer R)} where
   pub steps_lock : {table' : List (LockEntry P)} {j : ℕ} {w : Mode} {p : P} {r : Reply LockAnswer} → length table ≡ k.table → call ≡ Lock j w p → a ≡ said Locked r → LocksSo (lock_with K.apart allows j w p k table) r k k' table' → Steps K allows call k table log rows places a k' table' log rows places
-  steps_lock {j = j} {w = w} {p = p} long e q L =
-      let us = take k.logged log in
-      let M = rw (eq-eqb (length table) k.table long) at L in
-      let B = lock_beside (locks_front k table) us K.apart allows j w p in
-      rw e (record {
-        answer = rw B (q ∙ ap (said Locked) M.gives.reply);
-        state = rw (B, L.logged) (ap (λ (x : State P (Unit {0})). with_state (beside (locks_front k table) us x) (system k table log rows places)) M.gives.state);
-      })
+  steps_lock {j = j} {w = w} {p = p} long e q L = let G = lock_whole table log K.apart allows j w p long L in rw e (record { answer = q ∙ ap (said Locked) G.reply; state = ap (beside rows places) G.state })
 
   pub steps_release : {table' : List (LockEntry P)} {j n : ℕ} {r : Reply (Unit {0})} → length table ≡ k.table → call ≡ Release j n → a ≡ said (λ u. Released) r → LocksSo (release_with j n k table) r k k' table' → Steps K allows call k table log rows places a k' table' log rows places
-  steps_release {j = j} {n = n} long e q L =
-      let us = take k.logged log in
-      let M = rw (eq-eqb (length table) k.table long) at L in
-      let B = release_beside (locks_front k table) us j n in
-      rw e (record {
-        answer = rw B (q ∙ ap (said (λ u. Released)) M.gives.reply);
-        state = rw (B, L.logged) (ap (λ (x : State P (Unit {0})). with_state (beside (locks_front k table) us x) (system k table log rows places)) M.gives.state);
-      })
+  steps_release {j = j} {n = n} long e q L = let G = release_whole table log j n long L in rw e (record { answer = q ∙ ap (said (λ u. Released)) G.reply; state = ap (beside rows places) G.state })
 
   pub steps_turn : {log' : List (UndoEntry R)} {j : ℕ} {r : Reply ℕ} → length log ≡ k.log → call ≡ Turn j → a ≡ said Turned r → LogsSo (turn_with j k log) r k k' log' → Steps K allows call k table log rows places a k' table log' rows places
-  steps_turn {j = j} logs e q L =
-      let ls = take k.held table in
-      let M = rw (eq-eqb (length log) k.log logs) at L in
-      let B = turn_apart (log_front k log) ls j in
-      rw e (record {
-        answer = rw B (q ∙ ap (said Turned) M.gives.reply);
-        state = rw (B, L.held) (ap (λ (x : State (Unit {0}) R). with_state (apart_from (log_front k log) ls x) (system k table log rows places)) M.gives.state);
-      })
+  steps_turn {j = j} logs e q L = let G = turn_whole table log j logs L in rw e (record { answer = q ∙ ap (said Turned) G.reply; state = ap (beside rows places) G.state })
 
 -- a data call that alters nothing: it answers, if it is let
 abbrev told_only : {S R : Type 0} → Option JobRecord → Bool → DataAnswer R → S → Outcome S (DataAnswer R)
